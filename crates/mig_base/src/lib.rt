@@ -1,0 +1,28 @@
+//! The shared types of the project, its limits, and the definitions that contracts cite.
+#![tactic(auto)]
+
+mod cells;
+mod circuit;
+mod files;
+mod items;
+mod jedec;
+mod kinds;
+mod levels;
+mod limits;
+mod names;
+mod nets;
+mod plans;
+
+pub use cells::{Cell, ChipCells, ChipError, Enable, Form, Fuses, Lit, Product, Row, Source};
+pub use circuit::{Circuit, Driver, Gate, Gives, Levels, Literal, NetKind, Read, Register, Wire};
+pub use files::{FileName, NameError, Stem, file_name};
+pub use items::{Items, NoMemory};
+pub use jedec::JedError;
+pub use kinds::{Kind, Mode, is_cell, kind_of, kind_text, pins};
+pub use levels::{Level, and3, not3, or3, read_level, resolve2};
+pub use limits::{MOST_CHIPS, MOST_FILE_BYTES, MOST_FUSES, MOST_NETS};
+pub use names::Name;
+pub use nets::{
+    ChipLine, Net, NetError, NetLine, Node, PinLine, PinName, Port, Pull, Var, VarLit, VarProduct,
+};
+pub use plans::{Part, Plan, PlanChip, PlanLine};
