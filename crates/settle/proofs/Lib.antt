@@ -1,0 +1,6 @@
+pub mod Unique
+pub mod Exists
+pub mod FollowsSame
+pub mod Loops
+pub mod Pigeons
+pub mod OneRun

@@ -1,0 +1,4 @@
+pub mod Settled
+pub mod Runs
+pub mod SameBehaviour
+pub mod Follows
