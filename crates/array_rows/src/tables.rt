@@ -1,0 +1,55 @@
+ghost use Rattle.std.specs.Prelude.{◌≡◌};
+ghost use Rattle.mig_base.specs.DeviceTables as device;
+
+use mig_base::{Kind, Mode, pins};
+
+const COMPLEX_20: [u8; 16] = [2, 1, 3, 18, 4, 17, 5, 16, 6, 15, 7, 14, 8, 13, 9, 11];
+
+const REGISTERED_20: [u8; 16] = [2, 19, 3, 18, 4, 17, 5, 16, 6, 15, 7, 14, 8, 13, 9, 12];
+
+const SIMPLE_20: [u8; 16] = [2, 1, 3, 19, 4, 18, 5, 17, 6, 14, 7, 13, 8, 12, 9, 11];
+
+const COMPLEX_24: [u8; 20] = [
+    2, 1, 3, 23, 4, 21, 5, 20, 6, 19, 7, 18, 8, 17, 9, 16, 10, 14, 11, 13,
+];
+
+const REGISTERED_24: [u8; 20] = [
+    2, 23, 3, 22, 4, 21, 5, 20, 6, 19, 7, 18, 8, 17, 9, 16, 10, 15, 11, 14,
+];
+
+const SIMPLE_24: [u8; 20] = [
+    2, 1, 3, 23, 4, 22, 5, 21, 6, 20, 7, 17, 8, 16, 9, 15, 10, 14, 11, 13,
+];
+
+const COLUMNS_22: [u8; 22] = [
+    1, 23, 2, 22, 3, 21, 4, 20, 5, 19, 6, 18, 7, 17, 8, 16, 9, 15, 10, 14, 11, 13,
+];
+
+/// The pin of each pair of columns, in order (data sheets of the PAL16, GAL16V8, GAL20V8 and GAL22V10).
+pub fn pair_pins(kind: Kind, mode: Mode) -> &'static [u8]
+    ensures { result.now ≡ device.pair_pins kind mode }
+{
+    match (kind, mode) {
+        (Kind::Gal22V10 | Kind::Gal22V10Q, _) => &COLUMNS_22,
+        (Kind::Gal16V8, Mode::Simple) => &SIMPLE_20,
+        (Kind::Gal20V8, Mode::Simple) => &SIMPLE_24,
+        (Kind::Pal16L8, _) | (Kind::Gal16V8, Mode::Complex) => &COMPLEX_20,
+        (Kind::Pal20L8, _) | (Kind::Gal20V8, Mode::Complex) => &COMPLEX_24,
+        (Kind::Pal16R4 | Kind::Pal16R6 | Kind::Pal16R8 | Kind::Gal16V8, _) => &REGISTERED_20,
+        (Kind::Pal20R4 | Kind::Pal20R6 | Kind::Pal20R8 | Kind::Gal20V8, _) => &REGISTERED_24,
+    }
+}
+
+/// The macrocell pin of the first rows, on every chip but a 22V10. The pins of the rows that follow fall.
+pub fn top_pin(kind: Kind) -> u8
+    ensures { result ≡ device.top_pin kind }
+{
+    if pins(kind) == 20 { 19 } else { 22 }
+}
+
+/// The low-active enable pin of registers, on every chip but a 22V10.
+pub fn enable_pin(kind: Kind) -> u8
+    ensures { result ≡ device.enable_pin kind }
+{
+    if pins(kind) == 20 { 11 } else { 13 }
+}
