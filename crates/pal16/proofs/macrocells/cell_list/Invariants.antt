@@ -1,0 +1,7 @@
+use Rattle.std.proofs.Common.{◌≡◌, ◌-◌, ℕ, map}
+use Rattle.mig_base.specs.First.{made_from}
+use Rattle.mig_base.specs.Cells.{pal_cell}
+use Rattle.pal16.proofs.macrocells.cell_list.Given as goal
+
+abbrev pub invariant-loop-pin : goal.invariant-loop-pin
+invariant-loop-pin l = l.cells.items ≡ map (pal_cell l.kind l.fuses) (made_from (λ (p : ℕ). p) (l.top - 7) (l.pin - (l.top - 7)))
