@@ -1,0 +1,4 @@
+pub mod Digits
+pub mod Statements
+pub mod Marks
+pub mod ReadAnswer
