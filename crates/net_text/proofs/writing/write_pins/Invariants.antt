@@ -1,0 +1,7 @@
+use Rattle.std.proofs.Common.{◌≡◌, ◌++◌, take, map, string_bytes}
+use Rattle.std.specs.List.{flat_map}
+use Rattle.mig_base.specs.WrittenBoard.{written_line, pin_line}
+use Rattle.net_text.proofs.writing.write_pins.Given as goal
+
+abbrev pub invariant-loop-line : goal.invariant-loop-line
+invariant-loop-line l = string_bytes l.text ≡ string_bytes l.fn.text ++ flat_map written_line (map (pin_line l.net) (take l.line-index l.net.pins))
