@@ -1,0 +1,10 @@
+use Rattle.std.proofs.Common.{◌≡◌, ◌++◌, drop}
+use Rattle.std.specs.List.{filter_map}
+use Rattle.build.specs.InputPins.{pin_net}
+use Rattle.build.specs.NewFiles.{wire_at}
+use Rattle.build.proofs.new_wires.new_wires.Given as goal
+
+abbrev pub invariant-loop-pin : goal.invariant-loop-pin
+invariant-loop-pin l =
+    l.wires.items ++ filter_map (λ pin. wire_at l.nets.old.now pin (pin_net l.nets.old.now l.nets.chip.now pin)) (drop l.pin-index l.pin-items)
+    ≡ filter_map (λ pin. wire_at l.nets.old.now pin (pin_net l.nets.old.now l.nets.chip.now pin)) l.pin-items

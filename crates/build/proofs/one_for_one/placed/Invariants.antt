@@ -1,0 +1,6 @@
+use Rattle.std.proofs.Common.{◌≡◌, ◌++◌, drop}
+use Rattle.build.specs.OneForOne.{placed_from}
+use Rattle.build.proofs.one_for_one.placed.Given as goal
+
+abbrev pub invariant-loop-number : goal.invariant-loop-number
+invariant-loop-number l = l.placed.items ++ placed_from l.chip l.number (drop l.number l.units) ≡ placed_from l.chip 0 l.units

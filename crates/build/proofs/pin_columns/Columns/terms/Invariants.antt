@@ -1,0 +1,6 @@
+use Rattle.std.proofs.Common.{◌≡◌, take}
+use Rattle.build.specs.NewFiles.{new_terms}
+use Rattle.build.proofs.pin_columns.Columns.terms.Given as goal
+
+abbrev pub invariant-loop-term : goal.invariant-loop-term
+invariant-loop-term l = l.products.items ≡ new_terms l.self.nets.now.old.now l.self.nets.now.chip.now (take l.term-index l.terms)

@@ -1,0 +1,7 @@
+use Rattle.std.proofs.Common.{◌≡◌, ◌++◌, map, drop}
+use Rattle.std.specs.Prelude.{filter}
+use Rattle.build.specs.NewChip.{is_registered_unit}
+use Rattle.build.proofs.pin_columns.registered_pins.Given as goal
+
+abbrev pub invariant-loop-pin : goal.invariant-loop-pin
+invariant-loop-pin l = l.pins.items ++ map (λ x. x.0) (filter (is_registered_unit l.circuit) (drop l.pin-index l.units)) ≡ map (λ x. x.0) (filter (is_registered_unit l.circuit) l.units)

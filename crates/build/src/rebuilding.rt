@@ -1,0 +1,68 @@
+ghost use Rattle.std.specs.Prelude.{◌≡◌, ◌≤◌, map, length, IfOk};
+ghost use Rattle.mig_base.specs.Boards.{circuit as circuit_of};
+ghost use Rattle.build.specs.NewFiles.{fitted as fit_on, new_net as net_new};
+ghost use Rattle.build.specs.OneForOne.{old_board, same_chips as chips_same, one_for_one};
+
+use crate::aliases::all_variables;
+use crate::new_wires::{fitted, new_net};
+use crate::old_board::Old;
+use crate::one_for_one::{place_lines, plan_chips, same_chips};
+use crate::planned::PlannedChip;
+use crate::types::{FittedChip, Rebuilt};
+use board::{NetNumbers, units_of};
+use mig_base::{ChipCells, Circuit, Items, Net, NoMemory, Plan};
+use std::alloc::Global;
+
+/// These new chips, fitted.
+fn fit(alloc: Global, old: &Old, chips: &[PlannedChip]) -> Result<Vec<FittedChip>, NoMemory>
+    ensures { IfOk result (λ made. made.items ≡ map (fit_on old.now) chips.now) }
+{
+    let mut made = Vec::new(alloc);
+    for chip in chips {
+        made.push(fitted(alloc, old, chip)?)?;
+    }
+    Ok(made)
+}
+
+/// The board that the plan makes in which each old chip becomes one of the same name and each unit keeps its pin.
+/// The circuit is that of the board. Fails for want of memory alone.
+pub fn rebuild(
+    alloc: Global,
+    net: &Net,
+    chips: &[ChipCells],
+    circuit: &Circuit,
+) -> Result<Rebuilt, NoMemory>
+    requires nets { length net.now.nets ≤ 1024 }
+    requires lines { length net.now.chips ≤ 64 }
+    requires chips { length chips.now ≡ length net.now.chips }
+    requires circuit { circuit.now ≡ circuit_of net.now chips.now }
+    ensures chips { IfOk result (λ made. made.chips ≡ map (fit_on (old_board net.now chips.now)) (chips_same net.now chips.now)) }
+    ensures plan { IfOk result (λ made. made.plan ≡ one_for_one net.now chips.now) }
+    ensures net { IfOk result (λ made. made.net ≡ net_new net.now (map (fit_on (old_board net.now chips.now)) (chips_same net.now chips.now))) }
+{
+    let units = units_of(alloc, chips)?;
+    if units.len() > u32::MAX as usize {
+        return Err(NoMemory);
+    }
+    let variables = all_variables(alloc, circuit)?;
+    let numbers = NetNumbers::new(alloc, net)?;
+    let old = Old {
+        numbers,
+        net,
+        units: units.as_slice(),
+        circuit,
+        variables: variables.as_slice(),
+    };
+    let planned = same_chips(alloc, units.as_slice(), net.chips.items(), chips)?;
+    let plan = Plan {
+        chips: plan_chips(alloc, planned.as_slice())?,
+        lines: place_lines(alloc, net, units.as_slice())?,
+    };
+    let made = fit(alloc, &old, planned.as_slice())?;
+    let net = new_net(alloc, net, made.as_slice())?;
+    Ok(Rebuilt {
+        chips: Items::new(made),
+        plan,
+        net,
+    })
+}
