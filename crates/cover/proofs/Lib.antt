@@ -1,0 +1,4 @@
+pub mod CoverLemmas
+pub mod SumLemmas
+pub mod StepLemmas
+pub mod ResultLemmas

@@ -1,0 +1,4 @@
+pub mod Prime
+pub mod Refusal
+pub mod Steps
+pub mod Memo
