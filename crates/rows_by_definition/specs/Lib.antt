@@ -1,0 +1,2 @@
+pub mod OneGate
+pub mod TwoRegisters
