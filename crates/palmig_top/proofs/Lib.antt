@@ -1,0 +1,9 @@
+pub mod Loading
+pub mod Chains
+pub mod Chips
+pub mod SavingLemmas
+pub mod HeldParts
+pub mod NewFilesHeld
+pub mod NewFilesMade
+pub mod Headline
+pub mod Finishing

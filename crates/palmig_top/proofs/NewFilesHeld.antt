@@ -1,0 +1,150 @@
+-- The new files are held after they were placed.
+use Rattle.std.proofs.Common.{ℕ, zero, suc, ◌≡◌, ◌≢◌, ◌≤◌, ◌+◌, Bool, true, false, cond, ◌&&◌, ◌||◌, not, List, [], ◌∷◌, ◌++◌, map, length, Option, Some, None, Result, Ok, Err, refl, sym, ap, ◌∙◌, subst, IsTrue, arith, append_assoc}
+use Rattle.std.specs.Prelude.{codes}
+use Rattle.std.specs.List.{AllByRecursion, list_any}
+use Rattle.std.specs.Str.{bytes_eq}
+use Rattle.std.proofs.lemmas.List.{append_cancel_left, append_cancel_right}
+use Rattle.std.proofs.lemmas.Slice.Eq.{bytes_eq-Decides}
+use Rattle.mig_base.specs.declared.kinds.Kind.{Kind}
+use Rattle.mig_base.specs.declared.kinds.Kind.TheVariants.{Gal16V8}
+use Rattle.mig_base.specs.declared.cells.ChipCells.{ChipCells}
+use Rattle.mig_base.specs.declared.cells.ChipError.{ChipError}
+use Rattle.mig_base.specs.declared.cells.ChipError.TheVariants.{Count}
+use Rattle.mig_base.specs.declared.nets.ChipLine.{ChipLine}
+use Rattle.mig_base.specs.DeviceTables.{has_count, is_v8}
+use Rattle.mig_base.specs.Cells.{cells_of, cells_by_kind}
+use Rattle.mig_base.specs.WellFormed.{IsWellFormed}
+use Rattle.mig_base.specs.WrittenCells.{v8_fuses}
+use Rattle.mig_base.specs.WrittenFuses.{written_fuses}
+use Rattle.mig_base.specs.WrittenBoard.{are_distinct}
+use Rattle.mig_base.specs.FuseText.{fuses_of_text}
+use Rattle.mig_base.proofs.V8Laws.{v8-again}
+use Rattle.mig_base.proofs.WrittenKinds.{written-read, written-short}
+use Rattle.mig_io.specs.Holding.{Held, placed}
+use Rattle.build.specs.declared.types.FittedChip.{FittedChip}
+use Rattle.build.specs.NewFiles.{new_chip_line}
+use Rattle.palmig_top.specs.HeldBoard.{HoldsFile, HoldsChip, HoldsChips, net_file, plan_file, jed_file}
+use Rattle.palmig_top.specs.Verdict.{File, fuse_file}
+use Rattle.palmig_top.specs.Answer.{placed_all}
+
+-- none of these files has the name
+abbrev pub Lacks : List ℕ → List File → Type 0
+Lacks name fs = AllByRecursion (λ f. bytes_eq name f.0 ≡ false) fs
+
+pub kept : (name : List ℕ) (fs : List File) (h : Held) → Lacks name fs → placed_all fs h name ≡ h name
+kept name [] h p = refl
+kept name (f ∷ fs) h p = kept name fs (placed f.0 (Some f.1) h) p.1 ∙ ap (λ (b : Bool). cond b (Some f.1) (h name)) p.0
+
+pub same-name : (name : List ℕ) → bytes_eq name name ≡ true
+same-name name = (bytes_eq-Decides name name).1 refl
+
+other-name : (a b : List ℕ) → a ≢ b → bytes_eq a b ≡ false
+other-name a b other = at (bytes_eq a b) refl
+  where
+    at : (q : Bool) → bytes_eq a b ≡ q → bytes_eq a b ≡ false
+    at true e = absurd (other ((bytes_eq-Decides a b).0 e))
+    at false e = e
+
+pub last-placed : (fs : List File) (f : File) (h : Held) → placed_all (fs ++ f ∷ []) h f.0 ≡ Some f.1
+last-placed [] f h = ap (λ (b : Bool). cond b (Some f.1) (h f.0)) (same-name f.0)
+last-placed (g ∷ gs) f h = last-placed gs f (placed g.0 (Some g.1) h)
+
+-- names of different endings are different
+last_of : List ℕ → ℕ
+last_of [] = 0
+last_of (x ∷ []) = x
+last_of (x ∷ y ∷ ys) = last_of (y ∷ ys)
+
+last-append : (xs : List ℕ) (y : ℕ) (ys : List ℕ) → last_of (xs ++ y ∷ ys) ≡ last_of (y ∷ ys)
+unfolding last_of
+last-append [] y ys = refl
+last-append (x ∷ []) y ys = refl
+last-append (x ∷ z ∷ zs) y ys = last-append (z ∷ zs) y ys
+
+jed-last : (stem chip : List ℕ) → last_of (jed_file stem chip) ≡ 100
+unfolding last_of
+jed-last stem chip = last-append (stem ++ 46 ∷ chip) 46 (codes "jed")
+
+net-last : (stem : List ℕ) → last_of (net_file stem) ≡ 116
+unfolding last_of
+net-last stem = last-append (stem ++ []) 46 (codes "net")
+
+plan-last : (stem : List ℕ) → last_of (plan_file stem) ≡ 110
+unfolding last_of
+plan-last stem = last-append (stem ++ []) 46 (codes "plan")
+
+jed-not-net : (stem chip : List ℕ) → bytes_eq (jed_file stem chip) (net_file stem) ≡ false
+jed-not-net stem chip = other-name (jed_file stem chip) (net_file stem) (λ e.
+    let no : 100 ≡ 116 = sym (jed-last stem chip) ∙ ap last_of e ∙ net-last stem in absurd (let never : ⊥ = omega arith in never))
+
+jed-not-plan : (stem chip : List ℕ) → bytes_eq (jed_file stem chip) (plan_file stem) ≡ false
+jed-not-plan stem chip = other-name (jed_file stem chip) (plan_file stem) (λ e.
+    let no : 100 ≡ 110 = sym (jed-last stem chip) ∙ ap last_of e ∙ plan-last stem in absurd (let never : ⊥ = omega arith in never))
+
+same-tail : (a b : List ℕ) → 46 ∷ a ≡ 46 ∷ b → a ≡ b
+same-tail a b e = cc
+
+jed-names : (stem a b : List ℕ) → bytes_eq a b ≡ false → bytes_eq (jed_file stem a) (jed_file stem b) ≡ false
+jed-names stem a b other = other-name (jed_file stem a) (jed_file stem b) (λ e.
+    let inner : stem ++ 46 ∷ a ≡ stem ++ 46 ∷ b = append_cancel_right (stem ++ 46 ∷ a) (stem ++ 46 ∷ b) (46 ∷ codes "jed") e in
+    let same : a ≡ b = same-tail a b (append_cancel_left stem (46 ∷ a) (46 ∷ b) inner) in
+    let yes : bytes_eq a b ≡ true = (bytes_eq-Decides a b).1 same in
+    let no : true ≡ false = sym yes ∙ other in absurd (let never : ⊥ = cc in never))
+
+-- the fuse count is right where fuses make cells
+pub right-count : (k : Kind) (bits : List Bool) (c : ChipCells) → cells_of k bits ≡ Ok c → has_count k (length bits) ≡ true
+right-count k bits c e = at (has_count k (length bits)) refl e
+  where
+    at : (b : Bool) → has_count k (length bits) ≡ b → cond b (cells_by_kind k bits) (Err (Count (length bits))) ≡ Ok c → has_count k (length bits) ≡ true
+    at true p e = p
+    at false p e = cc
+
+-- a chip whose fuse file is held
+pub built-chip : (k : Held) (stem : List ℕ) (f : FittedChip) → is_v8 f.cells.kind ≡ true → IsWellFormed f.cells →
+    k (jed_file stem f.name) ≡ Some (written_fuses f.cells.kind (v8_fuses f.cells)) → HoldsChip k stem (new_chip_line f) f.cells
+built-chip k stem f v8 well content =
+    let again : cells_of f.cells.kind (v8_fuses f.cells) ≡ Ok f.cells = v8-again f.cells v8 well in
+    let count : has_count f.cells.kind (length (v8_fuses f.cells)) ≡ true = right-count f.cells.kind (v8_fuses f.cells) f.cells again in
+    record {
+      bytes = written_fuses f.cells.kind (v8_fuses f.cells);
+      bits = v8_fuses f.cells;
+      file = record { content = content; short = written-short f.cells.kind (v8_fuses f.cells) count };
+      fuses = written-read f.cells.kind (v8_fuses f.cells) [] count tt;
+      made = again;
+    }
+
+and-parts : (a b : Bool) → (a && b) ≡ true → (a ≡ true) × (b ≡ true)
+and-parts true b e = (refl, e)
+and-parts false b e = cc
+
+lacks-one : (stem name : List ℕ) (f : FittedChip) (fs : List FittedChip) (rest : List File) (b : Bool) → bytes_eq name f.name ≡ b → (b || list_any (bytes_eq name) (map (λ g. g.name) fs)) ≡ false →
+    (list_any (bytes_eq name) (map (λ g. g.name) fs) ≡ false → Lacks (jed_file stem name) (map (fuse_file stem) fs ++ rest)) → Lacks (jed_file stem name) (map (fuse_file stem) (f ∷ fs) ++ rest)
+lacks-one stem name f fs rest true q e more = cc
+lacks-one stem name f fs rest false q e more = (jed-names stem name f.name q, more e)
+
+lacks-named : (stem name : List ℕ) (fs : List FittedChip) → list_any (bytes_eq name) (map (λ f. f.name) fs) ≡ false → (rest : List File) → Lacks (jed_file stem name) rest →
+    Lacks (jed_file stem name) (map (fuse_file stem) fs ++ rest)
+lacks-named stem name [] e rest p = p
+lacks-named stem name (f ∷ fs) e rest p = lacks-one stem name f fs rest (bytes_eq name f.name) refl e (λ (more : list_any (bytes_eq name) (map (λ g. g.name) fs) ≡ false). lacks-named stem name fs more rest p)
+
+not-any : (b : Bool) → not b ≡ true → b ≡ false
+not-any true e = cc
+not-any false e = refl
+
+-- the fuse files of all chips
+pub built-chips : (stem : List ℕ) (rest : List File) → ((name : List ℕ) → Lacks (jed_file stem name) rest) → (fs : List FittedChip) (h : Held) →
+    are_distinct bytes_eq (map (λ f. f.name) fs) ≡ true → AllByRecursion (λ f. is_v8 f.cells.kind ≡ true) fs → AllByRecursion (λ f. IsWellFormed f.cells) fs →
+    HoldsChips (placed_all (map (fuse_file stem) fs ++ rest) h) stem (map new_chip_line fs) (map (λ f. f.cells) fs)
+built-chips stem rest apart [] h distinct v8 well = tt
+built-chips stem rest apart (f ∷ fs) h distinct v8 well =
+    let parts = and-parts (not (list_any (bytes_eq f.name) (map (λ g. g.name) fs))) (are_distinct bytes_eq (map (λ g. g.name) fs)) distinct in
+    let content : placed_all (map (fuse_file stem) (f ∷ fs) ++ rest) h (jed_file stem f.name) ≡ Some (written_fuses f.cells.kind (v8_fuses f.cells)) =
+    kept (jed_file stem f.name) (map (fuse_file stem) fs ++ rest) (placed (fuse_file stem f).0 (Some (fuse_file stem f).1) h) (lacks-named stem f.name fs (not-any _ parts.0) rest (apart f.name))
+    ∙ ap (λ (b : Bool). cond b (Some (fuse_file stem f).1) (h (jed_file stem f.name))) (same-name (jed_file stem f.name)) in (
+      built-chip (placed_all (map (fuse_file stem) (f ∷ fs) ++ rest) h) stem f v8.0 well.0 content,
+      built-chips stem rest apart fs (placed (fuse_file stem f).0 (Some (fuse_file stem f).1) h) parts.1 v8.1 well.1,
+    )
+
+-- the plan and the wiring stand behind them
+pub apart-behind : (stem plan net : List ℕ) (name : List ℕ) → Lacks (jed_file stem name) ((plan_file stem, plan) ∷ (net_file stem, net) ∷ [])
+apart-behind stem plan net name = (jed-not-plan stem name, (jed-not-net stem name, tt))

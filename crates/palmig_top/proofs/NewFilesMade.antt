@@ -1,0 +1,126 @@
+-- What is made for saving, step by step.
+use Rattle.std.proofs.Common.{ℕ, zero, suc, ◌≡◌, ◌+◌, Bool, true, false, List, [], ◌∷◌, ◌++◌, map, length, take, Result, Ok, Err, MatchResult, refl, sym, ap, ◌∙◌, subst}
+use Rattle.std.specs.Prelude.{IfOk}
+use Rattle.std.specs.Prelude.{◌&&◌}
+use Rattle.std.specs.List.{AllByRecursion, list_all}
+use Rattle.mig_base.specs.declared.kinds.Kind.{Kind}
+use Rattle.mig_base.specs.declared.kinds.Kind.TheVariants.{Gal16V8}
+use Rattle.mig_base.specs.declared.cells.ChipCells.{ChipCells}
+use Rattle.mig_base.specs.declared.nets.Net.{Net}
+use Rattle.mig_base.specs.declared.nets.ChipLine.{ChipLine}
+use Rattle.mig_base.specs.declared.plans.Plan.{Plan}
+use Rattle.mig_base.specs.declared.circuit.Circuit.{Circuit}
+use Rattle.mig_base.specs.Boards.{circuit as circuit_for}
+use Rattle.mig_base.specs.DeviceTables.{is_v8}
+use Rattle.mig_base.specs.WellFormed.{IsWellFormed}
+use Rattle.mig_base.specs.WrittenBoard.{written_net, IsWritable}
+use Rattle.mig_base.specs.WrittenPlan.{written_plan}
+use Rattle.mig_base.specs.WrittenCells.{v8_fuses}
+use Rattle.mig_base.specs.WrittenFuses.{written_fuses}
+use Rattle.build.specs.declared.types.FittedChip.{FittedChip}
+use Rattle.build.specs.OneForOne.{one_for_one}
+use Rattle.build.specs.FirstForm.{is_first_form, is_one_way, is_first_circuit}
+use Rattle.build.specs.RebuiltBoards.{IsBuiltWell, built_chips, built_net}
+use Rattle.palmig_top.specs.declared.exit.Exit.{Exit}
+use Rattle.palmig_top.specs.declared.exit.Exit.TheVariants.{Refused, Memory}
+use Rattle.palmig_top.specs.declared.exit.Refusal.TheVariants.{Later}
+use Rattle.palmig_top.specs.declared.words.Command.{Command}
+use Rattle.palmig_top.specs.declared.parts.Parts.{Parts}
+use Rattle.palmig_top.specs.declared.prepare.Prepared.{Prepared}
+use Rattle.palmig_top.specs.HeldBoard.{net_file, plan_file, jed_file}
+use Rattle.palmig_top.specs.Verdict.{File, Outcome, fuse_file, files_of, new_chips, new_wiring, done_line, outcome_of, outcome_or_later, only_if}
+use Rattle.palmig_top.specs.Steps.{Says}
+use Rattle.palmig_top.specs.Reading.{IsReadBoard, AreReadChips}
+use Rattle.palmig_top.specs.Saving.{file_of}
+use Rattle.palmig_top.specs.Preparing.{outcome_in, IsWritableChip}
+use Rattle.build.proofs.BuiltWell.{built-well}
+use Rattle.palmig_top.proofs.HeldParts.{read-writable, first-board}
+
+-- the text of a chip's fuses
+pub fuse-text-made : {V E : Type 0} (items : V → List ℕ) (k : Kind) (bits : List Bool) (cells : ChipCells) (r : Result V E) → bits ≡ v8_fuses cells →
+    IfOk r (λ v. items v ≡ written_fuses k bits) → MatchResult r (λ v. items v ≡ written_fuses k (v8_fuses cells)) (λ e. Unit {0})
+fuse-text-made items k bits cells (Ok v) e made = made ∙ ap (written_fuses k) e
+fuse-text-made items k bits cells (Err x) e made = tt
+
+-- a chip's file behind the others
+pub file-added : (stem : List ℕ) (chip : FittedChip) (old new : List File) (name text : List ℕ) (r : Result (Unit {0}) Exit) → name ≡ jed_file stem chip.name →
+    text ≡ written_fuses chip.cells.kind (v8_fuses chip.cells) → MatchResult r (λ done. new ≡ old ++ (name, text) ∷ []) (λ e. e ≡ Memory) →
+    MatchResult r (λ done. new ≡ old ++ fuse_file stem chip ∷ []) (λ e. e ≡ Memory)
+file-added stem chip old new name text (Ok done) named said made = made ∙ ap (λ (n : List ℕ). old ++ (n, text) ∷ []) named ∙ ap (λ (t : List ℕ). old ++ (jed_file stem chip.name, t) ∷ []) said
+file-added stem chip old new name text (Err e) named said made = made
+
+files-append : (stem : List ℕ) (cs : List FittedChip) (c : FittedChip) → map (fuse_file stem) (cs ++ c ∷ []) ≡ map (fuse_file stem) cs ++ fuse_file stem c ∷ []
+files-append stem [] c = refl
+files-append stem (d ∷ cs) c = ap (λ (q : List File). fuse_file stem d ∷ q) (files-append stem cs c)
+
+-- one more chip has its file
+pub files-more : (stem : List ℕ) (front more : List FittedChip) (c : FittedChip) (old new : List File) → more ≡ front ++ c ∷ [] → old ≡ map (fuse_file stem) front →
+    new ≡ old ++ fuse_file stem c ∷ [] → new ≡ map (fuse_file stem) more
+files-more stem front more c old new e was now =
+    now ∙ ap (λ (q : List File). q ++ fuse_file stem c ∷ []) was ∙ sym (files-append stem front c) ∙ ap (λ (q : List FittedChip). map (fuse_file stem) q) (sym e)
+
+as-many : (lines : List ChipLine) (chips : List ChipCells) → AreReadChips lines chips → length chips ≡ length lines
+as-many [] [] r = refl
+as-many [] (c ∷ cs) r = absurd r
+as-many (l ∷ ls) [] r = absurd r
+as-many (l ∷ ls) (c ∷ cs) r = ap suc (as-many ls cs r.1)
+
+-- as many cells as chip lines were read
+pub read-as-many : (parts : Parts) → IsReadBoard parts → length parts.chips ≡ length parts.net.chips
+read-as-many parts r = as-many parts.net.chips parts.chips r.chips
+
+built-of : (parts : Parts) → IsReadBoard parts → is_first_form parts.net parts.chips ≡ true → IsBuiltWell parts.net parts.chips
+built-of parts r form = built-well parts.net parts.chips (read-writable parts.net r.wiring) (first-board parts r form)
+
+writable-from : (fs : List FittedChip) → AllByRecursion (λ f. f.cells.kind ≡ Gal16V8) fs → AllByRecursion (λ f. IsWellFormed f.cells) fs → AllByRecursion IsWritableChip fs
+writable-from [] k w = tt
+writable-from (f ∷ fs) k w = (record { kind = ap is_v8 k.0; cells = w.0 }, writable-from fs k.1 w.1)
+
+-- the new chips' fuses can be written
+pub writable-chips : (parts : Parts) → IsReadBoard parts → is_first_form parts.net parts.chips ≡ true → (made : List FittedChip) → made ≡ new_chips parts → AllByRecursion IsWritableChip made
+writable-chips parts r form made e =
+    let well = built-of parts r form in
+    subst (λ (fs : List FittedChip). AllByRecursion IsWritableChip fs) (sym e) (writable-from (built_chips parts.net parts.chips) well.kinds well.cells)
+
+-- the new wiring has a text
+pub writable-wiring : (parts : Parts) → IsReadBoard parts → is_first_form parts.net parts.chips ≡ true → (made : Net) → made ≡ new_wiring parts → IsWritable made
+writable-wiring parts r form made e = subst IsWritable (sym e) (built-of parts r form).wiring
+
+-- what is saved and reported is what should be
+pub outcome-made : (stem : List ℕ) (parts : Parts) (chips : List FittedChip) (plan : Plan) (net : Net) (saves : List File) (report : List ℕ) (lines : List ChipLine) (counted : List FittedChip) →
+    chips ≡ new_chips parts → plan ≡ one_for_one parts.net parts.chips → net ≡ new_wiring parts →
+    saves ≡ map (fuse_file stem) chips ++ (plan_file stem, written_plan plan) ∷ (net_file stem, written_net net) ∷ [] →
+    report ≡ done_line (length lines) (length counted) → lines ≡ parts.net.chips → counted ≡ chips →
+    ◌≡◌ {A = Outcome} (record { saves = saves; report = report }) (outcome_of stem parts)
+outcome-made stem parts chips plan net saves report lines counted c p n s r l d =
+    ap (λ (x : List File). record { saves = x; report = report }) (s
+    ∙ ap (λ (q : List FittedChip). map (fuse_file stem) q ++ (plan_file stem, written_plan plan) ∷ (net_file stem, written_net net) ∷ []) c
+    ∙ ap (λ (q : Plan). map (fuse_file stem) (new_chips parts) ++ (plan_file stem, written_plan q) ∷ (net_file stem, written_net net) ∷ []) p
+    ∙ ap (λ (q : Net). map (fuse_file stem) (new_chips parts) ++ (plan_file stem, written_plan (one_for_one parts.net parts.chips)) ∷ (net_file stem, written_net q) ∷ []) n)
+    ∙ ap (λ (x : List ℕ). record { saves = files_of stem parts; report = x }) (r
+    ∙ ap (λ (q : List ChipLine). done_line (length q) (length counted)) l ∙ ap (λ (q : List FittedChip). done_line (length parts.net.chips) (length q)) (d ∙ c))
+
+-- a board of another form is left for later
+pub left-for-later : (c : Command) (parts : Parts) (test : Bool) (name : List ℕ) → test ≡ is_first_form parts.net parts.chips → test ≡ false → name ≡ net_file c.old →
+    outcome_or_later c parts ≡ Err (Refused (Later name))
+left-for-later c parts test name e f n =
+    ap (λ (b : Bool). only_if b (outcome_of c.new parts) (Refused (Later (net_file c.old)))) (sym e ∙ f) ∙ ap (λ (q : List ℕ). Err (Refused (Later q))) (sym n)
+
+-- a board of the form is done, but for want of memory
+pub done-or-memory : (c : Command) (parts : Parts) (r : Result Prepared Exit) → is_first_form parts.net parts.chips ≡ true →
+    MatchResult r (λ p. outcome_in p ≡ outcome_of c.new parts) (λ e. e ≡ Memory) → Says outcome_in (outcome_or_later c parts) r
+done-or-memory c parts (Ok p) form made = ap (λ (b : Bool). only_if b (outcome_of c.new parts) (Refused (Later (net_file c.old)))) form ∙ ap (λ (o : Outcome). Ok o) (sym made)
+done-or-memory c parts (Err e) form made = subst (λ (x : Exit). Says outcome_in (outcome_or_later c parts) (Err x)) (sym made) tt
+
+-- the circuit that was made is the board's
+pub made-circuit : (parts : Parts) (made : Circuit) (cells : List ChipCells) → made ≡ circuit_for parts.net cells → cells ≡ parts.chips → made ≡ circuit_for parts.net parts.chips
+made-circuit parts made cells e c = e ∙ ap (circuit_for parts.net) c
+
+-- the form that was tested is the board's
+pub form-of : (parts : Parts) (made : Circuit) (test : Bool) → made ≡ circuit_for parts.net parts.chips → test ≡ (list_all (λ l. is_one_way l.port) parts.net.nets && is_first_circuit made) →
+    test ≡ is_first_form parts.net parts.chips
+form-of parts made test e t = t ∙ ap (λ (q : Circuit). list_all (λ l. is_one_way l.port) parts.net.nets && is_first_circuit q) e
+
+-- what was made of the cells as they were lent
+pub built-from : {T : Type 0} {made : T} {cells chips : List ChipCells} (build : List ChipCells → T) → cells ≡ chips → made ≡ build cells → made ≡ build chips
+built-from build e m = m ∙ ap build e

@@ -1,0 +1,17 @@
+-- What is prepared for saving.
+use Rattle.std.specs.Prelude.{ℕ, List, map, IsTrue}
+use Rattle.mig_base.specs.DeviceTables.{is_v8}
+use Rattle.mig_base.specs.WellFormed.{IsWellFormed}
+use Rattle.build.specs.declared.types.FittedChip.{FittedChip}
+use Rattle.palmig_top.specs.declared.prepare.Prepared.{Prepared}
+use Rattle.palmig_top.specs.Verdict.{Outcome}
+use Rattle.palmig_top.specs.Saving.{file_of}
+
+-- as the outcome that it is
+abbrev pub outcome_in : Prepared → Outcome
+outcome_in p = record { saves = map file_of p.saves; report = p.report.items }
+
+-- a new chip whose fuses can be written
+pub record IsWritableChip (f : FittedChip) : Type 0 where
+  pub kind : IsTrue (is_v8 f.cells.kind)
+  pub cells : IsWellFormed f.cells

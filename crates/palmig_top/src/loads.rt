@@ -1,0 +1,180 @@
+ghost use Rattle.std.specs.Prelude.{◌≡◌, ◌≤◌, ◌++◌, ◌∷◌, [], ℕ, List, Option, IfOk, IsTrue, MatchResult, vec_len};
+ghost use Rattle.std.specs.Option.{option_map};
+ghost use Rattle.std.specs.List.{list_all};
+ghost use Rattle.mig_base.specs.DeviceTables.{is_pal16};
+ghost use Rattle.mig_base.specs.Names.{file_name_of};
+ghost use Rattle.mig_base.specs.Limits.{most_file_bytes};
+ghost use Rattle.palmig_top.specs.Verdict.{loaded, wiring_of, wiring_held, chip_of, chip_held, chips_held, parts_held, LoadsChips, LoadsBoard};
+ghost use Rattle.palmig_top.specs.HeldBoard.{net_file, jed_file};
+ghost use Rattle.palmig_top.specs.Steps.{StepGives, Says, exit_for_chip};
+ghost use Rattle.palmig_top.specs.Reading.{IsReadWiring, IsReadChip, AreReadChips, IsReadBoard};
+
+use crate::{Exit, Parts, Refusal};
+use build::is_first_wiring;
+use jed_text::read_jed;
+use mig_base::{
+    ChipCells, ChipError, ChipLine, FileName, Items, JedError, MOST_FILE_BYTES, Name, Net,
+    NetError, Stem, file_name,
+};
+use mig_io::{Files, LoadError};
+use net_text::read_net;
+use pal16::cells;
+use std::alloc::Global;
+
+/// The name of a file of a board.
+pub fn named(
+    alloc: Global,
+    stem: &Stem,
+    chip: Option<&Name>,
+    ending: &str,
+) -> Result<FileName, Exit>
+    ensures { MatchResult result (λ f. f ≡ file_name_of stem.now (option_map (λ c. c.now) chip.entry) ending.now) (λ e. e ≡ Exit.Memory) }
+{
+    match file_name(alloc, stem, chip, ending) {
+        Ok(name) => Ok(name),
+        Err(_) => Err(Exit::Memory),
+    }
+}
+
+/// A file that was loaded, with its name.
+#[derive(Drop)]
+pub struct Loaded {
+    pub name: FileName,
+    pub bytes: Vec<u8>,
+}
+
+/// A file of at most the limit's bytes.
+fn load<F: Files>(alloc: Global, files: &mut F, name: FileName) -> Result<Loaded, Exit>
+    ensures step { StepGives (λ r. r.bytes.items) (λ h. loaded h name) (λ h f. f ≡ name) (F.held files.old) (F.held files.new) (F.counts files.old) (F.counts files.new) result }
+    ensures named { IfOk result (λ r. r.name ≡ name) }
+    ensures short { IfOk result (λ r. vec_len r.bytes ≤ most_file_bytes) }
+{
+    match files.load(alloc, &name, MOST_FILE_BYTES) {
+        Ok(bytes) => {
+            if bytes.len() <= MOST_FILE_BYTES {
+                Ok(Loaded { name, bytes })
+            } else {
+                Err(Exit::Refused(Refusal::Later(name)))
+            }
+        }
+        Err(LoadError::Missing) => Err(Exit::Missing(name)),
+        Err(LoadError::Failed) => Err(Exit::ReadFault(name)),
+        Err(LoadError::Memory) => Err(Exit::Memory),
+    }
+}
+
+/// The wiring in a board file of the plain form.
+fn wiring_in(alloc: Global, file: Loaded) -> Result<Net, Exit>
+    requires { vec_len file.bytes ≤ most_file_bytes }
+    ensures says { Says (λ net. net) (wiring_of file.name file.bytes.items) result }
+    ensures read { IfOk result (λ net. IsReadWiring net) }
+{
+    match read_net(alloc, &file.bytes) {
+        Ok(net) => {
+            if is_first_wiring(&net) {
+                Ok(net)
+            } else {
+                Err(Exit::Refused(Refusal::Later(file.name)))
+            }
+        }
+        Err(NetError::Memory) => Err(Exit::Memory),
+        Err(_) => Err(Exit::Refused(Refusal::Later(file.name))),
+    }
+}
+
+/// What a chip that has no cells answers.
+fn chip_exit(name: FileName, error: ChipError) -> Exit
+    ensures { result ≡ exit_for_chip name error }
+{
+    match error {
+        ChipError::Memory => Exit::Memory,
+        ChipError::Count { .. } | ChipError::ModeBits | ChipError::Ac1InComplex { .. } => {
+            Exit::Refused(Refusal::Later(name))
+        }
+    }
+}
+
+/// The cells of a chip in a fuse file of the plain form.
+fn chip_in(alloc: Global, file: Loaded, line: &ChipLine) -> Result<ChipCells, Exit>
+    requires { IsTrue (is_pal16 line.now.kind) }
+    ensures says { Says (λ cells. cells) (chip_of file.name line.now file.bytes.items) result }
+    ensures read { IfOk result (λ cells. IsReadChip line.now cells) }
+{
+    let fuses = match read_jed(alloc, &file.bytes) {
+        Ok(fuses) => fuses,
+        Err(JedError::Memory) => return Err(Exit::Memory),
+        Err(_) => return Err(Exit::Refused(Refusal::Later(file.name))),
+    };
+    match cells(alloc, line.kind, &fuses) {
+        Ok(cells) => Ok(cells),
+        Err(e) => Err(chip_exit(file.name, e)),
+    }
+}
+
+/// The wiring of a board.
+pub fn read_wiring<F: Files>(alloc: Global, files: &mut F, old: &Stem) -> Result<Net, Exit>
+    ensures step { StepGives (λ net. net) (λ h. wiring_held h old.now) (λ h f. f ≡ net_file old.now) (F.held files.old) (F.held files.new) (F.counts files.old) (F.counts files.new) result }
+    ensures read { IfOk result (λ net. IsReadWiring net) }
+{
+    let name = named(alloc, old, None, "net")?;
+    let file = load(alloc, files, name)?;
+    wiring_in(alloc, file)
+}
+
+/// The cells of a chip of a board.
+pub fn read_chip<F: Files>(
+    alloc: Global,
+    files: &mut F,
+    old: &Stem,
+    line: &ChipLine,
+) -> Result<ChipCells, Exit>
+    requires { IsTrue (is_pal16 line.now.kind) }
+    ensures step { StepGives (λ cells. cells) (λ h. chip_held h old.now line.now) (λ h f. f ≡ jed_file old.now line.now.name) (F.held files.old) (F.held files.new) (F.counts files.old) (F.counts files.new) result }
+    ensures read { IfOk result (λ cells. IsReadChip line.now cells) }
+{
+    let name = named(alloc, old, Some(&line.name), "jed")?;
+    let file = load(alloc, files, name)?;
+    chip_in(alloc, file, line)
+}
+
+/// One more chip, behind the others.
+fn add_chip(chips: &mut Vec<ChipCells>, cells: ChipCells) -> Result<(), Exit>
+    ensures { MatchResult result (λ _. chips.new.items ≡ chips.old.items ++ cells ∷ []) (λ e. e ≡ Exit.Memory) }
+{
+    match chips.push(cells) {
+        Ok(()) => Ok(()),
+        Err(_) => Err(Exit::Memory),
+    }
+}
+
+/// The cells of each chip of a board.
+pub fn read_chips<F: Files>(
+    alloc: Global,
+    files: &mut F,
+    old: &Stem,
+    lines: &[ChipLine],
+) -> Result<Vec<ChipCells>, Exit>
+    requires { IsTrue (list_all (λ l. is_pal16 l.kind) lines.now) }
+    ensures step { StepGives (λ v. v.items) (λ h. chips_held h old.now lines.now) (λ h f. LoadsChips h old.now lines.now f) (F.held files.old) (F.held files.new) (F.counts files.old) (F.counts files.new) result }
+    ensures read { IfOk result (λ v. AreReadChips lines.now v.items) }
+{
+    let mut chips = Vec::new(alloc);
+    for line in lines {
+        let cells = read_chip(alloc, files, old, line)?;
+        add_chip(&mut chips, cells)?;
+    }
+    Ok(chips)
+}
+
+/// The wiring and the chips of a board.
+pub fn read_parts<F: Files>(alloc: Global, files: &mut F, old: &Stem) -> Result<Parts, Exit>
+    ensures step { StepGives (λ p. p) (λ h. parts_held h old.now) (λ h f. LoadsBoard h old.now f) (F.held files.old) (F.held files.new) (F.counts files.old) (F.counts files.new) result }
+    ensures read { IfOk result (λ p. IsReadBoard p) }
+{
+    let net = read_wiring(alloc, files, old)?;
+    let chips = read_chips(alloc, files, old, net.chips.items())?;
+    Ok(Parts {
+        net,
+        chips: Items::new(chips),
+    })
+}

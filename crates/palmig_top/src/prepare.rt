@@ -1,0 +1,155 @@
+ghost use Rattle.std.specs.Prelude.{◌≡◌, ◌++◌, ◌∷◌, [], ℕ, List, IsTrue, true, MatchResult, length, map};
+ghost use Rattle.std.specs.List.{AllByRecursion};
+ghost use Rattle.mig_base.specs.Boards.{circuit as circuit_for};
+ghost use Rattle.mig_base.specs.WrittenBoard.{written_net, IsWritable};
+ghost use Rattle.mig_base.specs.WrittenPlan.{written_plan};
+ghost use Rattle.mig_base.specs.WrittenFuses.{written_fuses};
+ghost use Rattle.mig_base.specs.WrittenCells.{v8_fuses};
+ghost use Rattle.build.specs.FirstForm.{is_first_form as is_first_form_board};
+ghost use Rattle.palmig_top.specs.HeldBoard.{net_file, plan_file};
+ghost use Rattle.palmig_top.specs.Verdict.{judged_migration, outcome_or_later, outcome_of, fuse_file as file_for_chip, done_line, LoadsBoard};
+ghost use Rattle.palmig_top.specs.Steps.{StepGives, Says};
+ghost use Rattle.palmig_top.specs.Reading.{IsReadBoard};
+ghost use Rattle.palmig_top.specs.Saving.{file_of};
+ghost use Rattle.palmig_top.specs.Preparing.{outcome_in, IsWritableChip};
+
+use crate::loads::{named, read_parts};
+use crate::{Command, Exit, NewFile, Parts, Refusal};
+use board::circuit_of;
+use build::{FittedChip, Rebuilt, is_first_form, rebuild};
+use jed_write::jed_bytes;
+use mig_base::{Circuit, FileName, Items, NoMemory, Stem};
+use mig_io::Files;
+use net_text::write_net;
+use plan_text::write_plan;
+use std::alloc::{AllocError, Global};
+use v8::fuses_of;
+
+/// What a command saves and reports where all goes well.
+#[derive(Drop)]
+pub struct Prepared {
+    pub saves: Items<NewFile>,
+    pub report: Vec<u8>,
+}
+
+/// One more file, behind the others.
+fn add_file(saves: &mut Vec<NewFile>, name: FileName, bytes: Vec<u8>) -> Result<(), Exit>
+    ensures { MatchResult result (λ _. map file_of saves.new.items ≡ map file_of saves.old.items ++ (name, bytes.items) ∷ []) (λ e. e ≡ Exit.Memory) }
+{
+    match saves.push(NewFile { name, bytes }) {
+        Ok(()) => Ok(()),
+        Err(_) => Err(Exit::Memory),
+    }
+}
+
+/// The fuse text of a new chip.
+fn fuse_text(alloc: Global, chip: &FittedChip) -> Result<Vec<u8>, NoMemory>
+    requires { IsWritableChip chip.now }
+    ensures { MatchResult result (λ text. text.items ≡ written_fuses chip.now.cells.kind (v8_fuses chip.now.cells)) (λ _. Unit {0}) }
+{
+    let fuses = fuses_of(alloc, &chip.cells)?;
+    jed_bytes(alloc, chip.cells.kind, &fuses)
+}
+
+/// The fuse file of a new chip.
+fn add_chip_file(
+    alloc: Global,
+    saves: &mut Vec<NewFile>,
+    new: &Stem,
+    chip: &FittedChip,
+) -> Result<(), Exit>
+    requires { IsWritableChip chip.now }
+    ensures { MatchResult result (λ _. map file_of saves.new.items ≡ map file_of saves.old.items ++ file_for_chip new.now chip.now ∷ []) (λ e. e ≡ Exit.Memory) }
+{
+    let name = named(alloc, new, Some(&chip.name), "jed")?;
+    let Ok(text) = fuse_text(alloc, chip) else {
+        return Err(Exit::Memory);
+    };
+    add_file(saves, name, text)
+}
+
+/// The fuse files of the new chips.
+fn fuse_files(alloc: Global, new: &Stem, chips: &[FittedChip]) -> Result<Vec<NewFile>, Exit>
+    requires { AllByRecursion IsWritableChip chips.now }
+    ensures { MatchResult result (λ v. map file_of v.items ≡ map (file_for_chip new.now) chips.now) (λ e. e ≡ Exit.Memory) }
+{
+    let mut saves = Vec::new(alloc);
+    for chip in chips {
+        add_chip_file(alloc, &mut saves, new, chip)?;
+    }
+    Ok(saves)
+}
+
+/// The files of the new board: one fuse file a chip, the plan, the wiring.
+fn new_files(alloc: Global, new: &Stem, made: &Rebuilt) -> Result<Vec<NewFile>, Exit>
+    requires chips { AllByRecursion IsWritableChip made.now.chips }
+    requires wiring { IsWritable made.now.net }
+    ensures { MatchResult result
+        (λ v. map file_of v.items ≡ map (file_for_chip new.now) made.now.chips ++ (plan_file new.now, written_plan made.now.plan) ∷ (net_file new.now, written_net made.now.net) ∷ [])
+        (λ e. e ≡ Exit.Memory) }
+{
+    let mut saves = fuse_files(alloc, new, made.chips.items())?;
+    let plan = named(alloc, new, None, "plan")?;
+    let Ok(plan_text) = write_plan(alloc, &made.plan) else {
+        return Err(Exit::Memory);
+    };
+    add_file(&mut saves, plan, plan_text)?;
+    let net = named(alloc, new, None, "net")?;
+    let Ok(net_text) = write_net(alloc, &made.net) else {
+        return Err(Exit::Memory);
+    };
+    add_file(&mut saves, net, net_text)?;
+    Ok(saves)
+}
+
+/// The report of a migration: the numbers of old and of new chips.
+fn done_report(alloc: Global, old: usize, new: usize) -> Result<Vec<u8>, AllocError>
+    ensures { MatchResult result (λ v. v.items ≡ done_line old new) (λ _. Unit {0}) }
+{
+    let text = format!(in alloc; "done old {old} new {new}\n")?;
+    Ok(text.into_bytes())
+}
+
+/// The new board's files and the report.
+fn rebuilt(alloc: Global, new: &Stem, parts: &Parts, circuit: &Circuit) -> Result<Prepared, Exit>
+    requires read { IsReadBoard parts.now }
+    requires form { is_first_form_board parts.now.net parts.now.chips ≡ true }
+    requires circuit { circuit.now ≡ circuit_for parts.now.net parts.now.chips }
+    ensures { MatchResult result (λ p. outcome_in p ≡ outcome_of new.now parts.now) (λ e. e ≡ Exit.Memory) }
+{
+    let Ok(made) = rebuild(alloc, &parts.net, parts.chips.items(), circuit) else {
+        return Err(Exit::Memory);
+    };
+    let saves = new_files(alloc, new, &made)?;
+    let old_count = parts.net.chips.items().len();
+    let Ok(report) = done_report(alloc, old_count, made.chips.items().len()) else {
+        return Err(Exit::Memory);
+    };
+    Ok(Prepared {
+        saves: Items::new(saves),
+        report,
+    })
+}
+
+/// The new board's files and the report, or why the board is not taken.
+fn prepared_of(alloc: Global, command: &Command, parts: Parts) -> Result<Prepared, Exit>
+    requires { IsReadBoard parts }
+    ensures { Says outcome_in (outcome_or_later command.now parts) result }
+{
+    let Ok(circuit) = circuit_of(alloc, &parts.net, parts.chips.items()) else {
+        return Err(Exit::Memory);
+    };
+    if !is_first_form(&parts.net, &circuit) {
+        let name = named(alloc, &command.old, None, "net")?;
+        return Err(Exit::Refused(Refusal::Later(name)));
+    }
+    rebuilt(alloc, &command.new, &parts, &circuit)
+}
+
+/// Loads the old board and prepares the new one.
+pub fn prepare<F: Files>(alloc: Global, files: &mut F, command: &Command) -> Result<Prepared, Exit>
+    ensures { StepGives outcome_in (λ h. judged_migration command.now h) (λ h f. LoadsBoard h command.now.old f) (F.held files.old) (F.held files.new) (F.counts files.old) (F.counts files.new) result }
+{
+    let parts = read_parts(alloc, files, &command.old)?;
+    prepared_of(alloc, command, parts)
+}
