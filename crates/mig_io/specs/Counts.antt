@@ -1,5 +1,5 @@
--- Counts that never fall, and answers that come only where one rose.
-use Rattle.std.specs.Prelude.{ℕ, ◌+◌, ◌-◌, ◌^◌, ◌≤◌, min, Result, IsErrOf}
+-- Counts that never fall, and that rise exactly where a call answers so.
+use Rattle.std.specs.Prelude.{ℕ, ◌≡◌, ◌≢◌, ◌+◌, ◌-◌, ◌^◌, ◌≤◌, min, Result, Err, IsErrOf}
 use Rattle.mig_io.specs.declared.files.LoadError.{LoadError}
 use Rattle.mig_io.specs.declared.files.LoadError.TheVariants as loading
 use Rattle.mig_io.specs.declared.files.SaveError.{SaveError}
@@ -23,18 +23,25 @@ pub record NoneFell (before now : Counts) : Type 0 where
   pub save_faults : before.save_faults ≤ now.save_faults
   pub misses : before.misses ≤ now.misses
 
--- a load fails or misses only where its count rose
+-- a load fails or misses only where its count rose, and after every other answer the count is what it was
 pub record LoadCauses {T : Type 0} (before now : Counts) (result : Result T LoadError) : Type 0 where
   pub later : NoneFell before now
   pub failed : IsErrOf result loading.Failed → Rose before.read_faults now.read_faults
   pub missing : IsErrOf result loading.Missing → Rose before.misses now.misses
+  pub read_faults : result ≢ Err loading.Failed → now.read_faults ≡ before.read_faults
+  pub misses : result ≢ Err loading.Missing → now.misses ≡ before.misses
+  pub save_faults : now.save_faults ≡ before.save_faults
 
--- a save fails only where its count rose
+-- a save fails only where its count rose, and after every other answer the count is what it was
 pub record SaveCauses {T : Type 0} (before now : Counts) (result : Result T SaveError) : Type 0 where
   pub later : NoneFell before now
   pub failed : IsErrOf result saving.Failed → Rose before.save_faults now.save_faults
+  pub read_faults : now.read_faults ≡ before.read_faults
+  pub save_faults : result ≢ Err saving.Failed → now.save_faults ≡ before.save_faults
+  pub misses : now.misses ≡ before.misses
 
--- a put fails only where the count rose
+-- a put fails only where the count rose, and after every other answer the count is what it was
 pub record PutCauses {T : Type 0} (before now : ℕ) (result : Result T PutError) : Type 0 where
   pub later : before ≤ now
   pub failed : IsErrOf result putting.Failed → Rose before now
+  pub same : result ≢ Err putting.Failed → now ≡ before

@@ -7,7 +7,7 @@ mod memory;
 mod sink;
 mod store;
 
-pub use disk::{DiskFiles, OutSink};
+pub use disk::{DiskFiles, OutSink, WriterSink};
 pub use files::{Files, LoadError, SaveError};
 pub use memory::{FirmFiles, FirmSink, MemFiles, MemSink};
 pub use sink::{PutError, Sink};
