@@ -1,6 +1,8 @@
 -- Rows and terms, one more at the end.
 use Rattle.std.proofs.Common.{ℕ, zero, suc, ◌≡◌, ◌+◌, List, [], ◌∷◌, ◌++◌, map, refl, sym, ap, ◌∙◌, arith, add-zero, Bool, true, false, drop, length, min}
+use Rattle.std.specs.Prelude.{filter, if◌then◌else◌}
 use Rattle.std.proofs.lemmas.List.{map-append}
+use Rattle.std.proofs.lemmas.List.Elements.{filter-append}
 use Rattle.mig_base.specs.declared.cells.Lit.{Lit}
 use Rattle.mig_base.specs.First.{made_from}
 use Rattle.mig_base.specs.declared.cells.Row.{Row}
@@ -47,3 +49,10 @@ pub map-made_from-more : {T : Type 0} (f : ℕ → T) (first n m : ℕ) → m �
     map f (made_from (λ (k : ℕ). k) first m) ≡ map f (made_from (λ (k : ℕ). k) first n) ++ f (first + n) ∷ []
 map-made_from-more f first n m e =
     ap (map f) (made_from-more (λ (k : ℕ). k) first n m e) ∙ map-append f (made_from (λ (k : ℕ). k) first n) ((first + n) ∷ [])
+
+-- those of the numbers from a first one on that pass a test, and one number more
+pub filter-made_from-more : (p : ℕ → Bool) (first n m : ℕ) (b : Bool) → m ≡ n + 1 → p (first + n) ≡ b →
+    filter p (made_from (λ (k : ℕ). k) first m) ≡ filter p (made_from (λ (k : ℕ). k) first n) ++ (if b then (first + n) ∷ [] else [])
+filter-made_from-more p first n m b e h =
+    ap (filter p) (made_from-more (λ (k : ℕ). k) first n m e) ∙ filter-append p (made_from (λ (k : ℕ). k) first n) ((first + n) ∷ [])
+    ∙ ap (λ (keep : Bool). filter p (made_from (λ (k : ℕ). k) first n) ++ (if keep then (first + n) ∷ [] else [])) h

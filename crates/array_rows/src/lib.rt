@@ -7,11 +7,11 @@ mod reading;
 mod tables;
 mod writing;
 
-pub use macrocells::{combinational, idle, registered};
-pub use pairs::columns;
-pub use reading::rows;
-pub use tables::{enable_pin, pair_pins, top_pin};
-pub use writing::push_cell;
+pub use macrocells::{combinational, idle, output, registered, registered_by_row};
+pub use pairs::{chip_columns, columns, columns_of};
+pub use reading::{all_zero, array_row, rows};
+pub use tables::{enable_pin, pair_pins, top_pin, width};
+pub use writing::{push_cell, push_row, push_states};
 
 #[cfg(test)]
 mod tests;

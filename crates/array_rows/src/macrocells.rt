@@ -77,6 +77,21 @@ pub fn combinational(
     })
 }
 
+/// A combinational macrocell that is always enabled: each of its rows is a term.
+pub fn output(alloc: Global, pin: u8, low: bool, rows: Vec<Row>) -> Result<Cell, NoMemory>
+    ensures { IfOk result (λ cell. cell ≡ cells.output_cell pin low rows.items) }
+{
+    let terms = terms(alloc, rows)?;
+    Ok(Cell {
+        pin,
+        form: Form::Comb,
+        low,
+        pin_low: false,
+        enable: Enable::Always,
+        terms,
+    })
+}
+
 /// A registered macrocell that the chip's low-active enable pin enables. Its D is the sum of the rows or the complement, the pin NOT Q.
 pub fn registered(
     alloc: Global,
@@ -94,6 +109,31 @@ pub fn registered(
         low,
         pin_low: true,
         enable: Enable::LowPin(enable_pin),
+        terms,
+    })
+}
+
+/// A registered macrocell, the first of whose rows is its enable. Its D is the sum of the others, the pin Q or NOT Q.
+/// It is idle where there are no rows.
+pub fn registered_by_row(
+    alloc: Global,
+    pin: u8,
+    pin_low: bool,
+    mut rows: Vec<Row>,
+) -> Result<Cell, NoMemory>
+    ensures { IfOk result (λ cell. cell ≡ cells.reg_cell_22 pin pin_low rows.items) }
+{
+    if rows.is_empty() {
+        return Ok(idle(alloc, pin));
+    }
+    let enable = enable(rows.remove(0));
+    let terms = terms(alloc, rows)?;
+    Ok(Cell {
+        pin,
+        form: Form::Reg,
+        low: false,
+        pin_low,
+        enable,
         terms,
     })
 }

@@ -1,7 +1,9 @@
 ghost use Rattle.std.specs.Prelude.{◌≡◌, IfOk};
-ghost use Rattle.mig_base.specs.Cells.{is_among, lit_of, pair_columns};
+ghost use Rattle.mig_base.specs.Cells.{columns_of as columns_in, is_among, lit_of, pair_columns};
+ghost use Rattle.mig_base.specs.WellFormed.{chip_columns as columns_in_chip, registers_in};
 
-use mig_base::{Lit, NoMemory, Source};
+use crate::tables::{even_reads_q, pair_pins};
+use mig_base::{Cell, ChipCells, Form, Kind, Lit, Mode, NoMemory, Source};
 use std::alloc::Global;
 
 /// What the even or the odd column of the pair of a pin reads.
@@ -36,4 +38,37 @@ pub fn columns(
         columns.push(literal(even_q, registers, *pin, false))?;
     }
     Ok(columns)
+}
+
+/// What the columns of a kind and mode read, where these pins are registered.
+pub fn columns_of(
+    alloc: Global,
+    kind: Kind,
+    mode: Mode,
+    registers: &[u8],
+) -> Result<Vec<Lit>, NoMemory>
+    ensures { IfOk result (λ columns. columns.items ≡ columns_in kind mode registers.now) }
+{
+    columns(alloc, even_reads_q(kind), registers, pair_pins(kind, mode))
+}
+
+/// The pins of the registered cells.
+fn registers(alloc: Global, cells: &[Cell]) -> Result<Vec<u8>, NoMemory>
+    ensures { IfOk result (λ pins. pins.items ≡ registers_in cells.now) }
+{
+    let mut pins = Vec::new(alloc);
+    for cell in cells {
+        if cell.form == Form::Reg {
+            pins.push(cell.pin)?;
+        }
+    }
+    Ok(pins)
+}
+
+/// What the columns of a chip with these cells read.
+pub fn chip_columns(alloc: Global, cells: &ChipCells) -> Result<Vec<Lit>, NoMemory>
+    ensures { IfOk result (λ columns. columns.items ≡ columns_in_chip cells.now) }
+{
+    let registers = registers(alloc, cells.cells.items())?;
+    columns_of(alloc, cells.kind, cells.mode, &registers)
 }

@@ -20,7 +20,7 @@ fn literals(alloc: Global, columns: &[Lit], fuses: &[bool]) -> Result<Vec<Lit>, 
 }
 
 /// Whether no fuse is blown.
-fn all_zero(fuses: &[bool]) -> bool
+pub fn all_zero(fuses: &[bool]) -> bool
     ensures { result ≡ list_all not fuses.now }
 {
     fuses.iter().all(|blown| !*blown)
@@ -38,6 +38,16 @@ fn row(alloc: Global, columns: &[Lit], fuses: &[bool]) -> Result<Row, NoMemory>
     Ok(Row::Product(product))
 }
 
+/// One row of an array, counted from 0.
+pub fn array_row(alloc: Global, columns: &[Lit], fuses: &[bool], r: usize) -> Result<Row, NoMemory>
+    requires few { r < 2 ^ 16 }
+    requires within { length columns.now * (r + 1) ≤ length fuses.now }
+    ensures { IfOk result (λ row. row ≡ row_of columns.now (row_at (length columns.now) fuses.now r)) }
+{
+    let width = columns.len();
+    row(alloc, columns, &fuses[width * r..width * r + width])
+}
+
 #[tactic(auto, using(crate::proofs::RowLemmas::row_rules))]
 /// This many rows of an array, from this one on.
 pub fn rows(
@@ -51,10 +61,9 @@ pub fn rows(
     requires within { length columns.now * (first + count) ≤ length fuses.now }
     ensures { IfOk result (λ rows. rows.items ≡ made_from (λ r. row_of columns.now (row_at (length columns.now) fuses.now r)) first count) }
 {
-    let width = columns.len();
     let mut rows = Vec::new(alloc);
     for r in first..first + count {
-        rows.push(row(alloc, columns, &fuses[width * r..width * r + width])?)?;
+        rows.push(array_row(alloc, columns, fuses, r)?)?;
     }
     Ok(rows)
 }

@@ -53,3 +53,20 @@ pub fn enable_pin(kind: Kind) -> u8
 {
     if pins(kind) == 20 { 11 } else { 13 }
 }
+
+/// The number of columns of the array.
+pub fn width(kind: Kind) -> usize
+    ensures { result ≡ device.array_width kind }
+{
+    match kind {
+        Kind::Gal22V10 | Kind::Gal22V10Q => 44,
+        _ => { if pins(kind) == 20 { 32 } else { 40 } }
+    }
+}
+
+/// Whether the even column of a registered macrocell reads Q. It reads NOT Q on every other chip.
+pub fn even_reads_q(kind: Kind) -> bool
+    ensures { result ≡ device.even_reads_q kind }
+{
+    kind == Kind::Gal22V10Q
+}

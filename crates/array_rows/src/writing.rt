@@ -3,7 +3,7 @@ ghost use Rattle.std.specs.List.{flat_map};
 ghost use Rattle.mig_base.specs.declared.cells.Row.TheVariants as row;
 ghost use Rattle.mig_base.specs.WrittenCells.{cell_rows, enable_rows, has_lit, row_fuses};
 
-use mig_base::{Cell, Enable, Lit, Mode, Product};
+use mig_base::{Cell, Enable, Lit, Mode, Product, Row};
 use std::alloc::AllocError;
 
 /// Whether the literal is one of these.
@@ -31,6 +31,16 @@ fn push_zeros(columns: &[Lit], fuses: &mut Vec<bool>) -> Result<(), AllocError>
         fuses.push(false)?;
     }
     Ok(())
+}
+
+/// Adds the fuses of a row.
+pub fn push_row(columns: &[Lit], row: &Row, fuses: &mut Vec<bool>) -> Result<(), AllocError>
+    ensures { OnOk result (fuses.new.items ≡ fuses.old.items ++ row_fuses columns.now row.now) }
+{
+    match row {
+        Row::Never => push_zeros(columns, fuses),
+        Row::Product(product) => push_product(columns, product.items(), fuses),
+    }
 }
 
 /// Adds so many rows of zeros.
@@ -100,4 +110,14 @@ pub fn push_cell(
         .saturating_sub(enable_row_count(mode, &cell.enable))
         .saturating_sub(terms.len());
     push_unused(columns, unused, fuses)
+}
+
+/// Adds so many fuses of one state.
+pub fn push_states(count: usize, state: bool, fuses: &mut Vec<bool>) -> Result<(), AllocError>
+    ensures { OnOk result (fuses.new.items ≡ fuses.old.items ++ replicate count state) }
+{
+    for _fuse in 0..count {
+        fuses.push(state)?;
+    }
+    Ok(())
 }

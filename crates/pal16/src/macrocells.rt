@@ -1,24 +1,18 @@
 ghost use Rattle.std.specs.Prelude.{◌≡◌, ◌≤◌, ◌<◌, ◌+◌, ◌*◌, IsTrue, IfOk, length, map};
 ghost use Rattle.mig_base.specs.declared.kinds.Mode.TheVariants.{Fixed};
 ghost use Rattle.mig_base.specs.DeviceTables as device;
-ghost use Rattle.mig_base.specs.Cells.{columns_of, pal_cell};
+ghost use Rattle.mig_base.specs.Cells.{columns_of as columns_in, pal_cell};
 
 use crate::tables;
-use array_rows::{columns, combinational, enable_pin, pair_pins, registered, rows, top_pin};
+use array_rows::{columns_of, combinational, enable_pin, registered, rows, top_pin};
 use mig_base::{Cell, Kind, Lit, Mode, NoMemory};
 use std::alloc::Global;
 
 /// What the columns of a PAL read.
 fn pal_columns(alloc: Global, kind: Kind) -> Result<Vec<Lit>, NoMemory>
-    requires { IsTrue (device.is_pal kind) }
-    ensures { IfOk result (λ columns. columns.items ≡ columns_of kind Fixed (device.pal_registers kind)) }
+    ensures { IfOk result (λ columns. columns.items ≡ columns_in kind Fixed (device.pal_registers kind)) }
 {
-    columns(
-        alloc,
-        false,
-        tables::registers(kind),
-        pair_pins(kind, Mode::Fixed),
-    )
+    columns_of(alloc, kind, Mode::Fixed, tables::registers(kind))
 }
 
 /// The macrocell of a pin.
@@ -30,7 +24,7 @@ fn cell(
     pin: u8,
 ) -> Result<Cell, NoMemory>
     requires kind { IsTrue (device.is_pal kind) }
-    requires columns { columns.now ≡ columns_of kind Fixed (device.pal_registers kind) }
+    requires columns { columns.now ≡ columns_in kind Fixed (device.pal_registers kind) }
     requires fuses { length fuses.now ≡ 64 * device.array_width kind }
     requires pin { (pin ≤ device.top_pin kind) × (device.top_pin kind < pin + 8) }
     ensures { IfOk result (λ cell. cell ≡ pal_cell kind fuses.now pin) }

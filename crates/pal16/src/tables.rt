@@ -1,4 +1,4 @@
-ghost use Rattle.std.specs.Prelude.{◌≡◌, IsTrue};
+ghost use Rattle.std.specs.Prelude.{◌≡◌};
 ghost use Rattle.mig_base.specs.DeviceTables as device;
 
 use mig_base::Kind;
@@ -22,12 +22,4 @@ pub fn registers(kind: Kind) -> &'static [u8]
         Kind::Pal20R8 => &[15, 16, 17, 18, 19, 20, 21, 22],
         _ => &[],
     }
-}
-
-/// The number of columns.
-pub fn width(kind: Kind) -> usize
-    requires { IsTrue (device.is_pal kind) }
-    ensures { result ≡ device.array_width kind }
-{
-    if mig_base::pins(kind) == 20 { 32 } else { 40 }
 }

@@ -1,10 +1,8 @@
-ghost use Rattle.std.specs.Prelude.{◌≡◌, ◌++◌, IsTrue, IfOk, OnOk, map, replicate, reverse};
-ghost use Rattle.mig_base.specs.DeviceTables.{is_v8};
-ghost use Rattle.mig_base.specs.WellFormed.{chip_columns, registers_in};
+ghost use Rattle.std.specs.Prelude.{◌≡◌, ◌++◌, OnOk, map, reverse};
 ghost use Rattle.mig_base.specs.WrittenCells as written;
 
-use array_rows::{columns, pair_pins, push_cell};
-use mig_base::{Cell, ChipCells, Form, Lit, Mode, NoMemory};
+use array_rows::{chip_columns, push_cell, push_states};
+use mig_base::{Cell, ChipCells, Form, Mode, NoMemory};
 use std::alloc::{AllocError, Global};
 
 /// The rows of a macrocell.
@@ -16,34 +14,11 @@ const SIGNATURE: usize = 64;
 /// The rows of the array, each of which has a disable bit.
 const ROWS: usize = 64;
 
-/// The pins of the registered cells.
-fn registers(alloc: Global, cells: &[Cell]) -> Result<Vec<u8>, NoMemory>
-    ensures { IfOk result (λ pins. pins.items ≡ registers_in cells.now) }
-{
-    let mut pins = Vec::new(alloc);
-    for cell in cells {
-        if cell.form == Form::Reg {
-            pins.push(cell.pin)?;
-        }
-    }
-    Ok(pins)
-}
-
-/// What the columns read.
-fn columns_of(alloc: Global, cells: &ChipCells) -> Result<Vec<Lit>, NoMemory>
-    requires { IsTrue (is_v8 cells.now.kind) }
-    ensures { IfOk result (λ columns. columns.items ≡ chip_columns cells.now) }
-{
-    let registers = registers(alloc, cells.cells.items())?;
-    columns(alloc, false, &registers, pair_pins(cells.kind, cells.mode))
-}
-
 /// Adds the array: eight rows for each cell, by falling pin.
 pub fn push_array(alloc: Global, cells: &ChipCells, fuses: &mut Vec<bool>) -> Result<(), NoMemory>
-    requires { IsTrue (is_v8 cells.now.kind) }
     ensures { OnOk result (fuses.new.items ≡ fuses.old.items ++ written.v8_array cells.now) }
 {
-    let columns = columns_of(alloc, cells)?;
+    let columns = chip_columns(alloc, cells)?;
     for cell in cells.cells.items().iter().rev() {
         push_cell(cells.mode, &columns, CELL_ROWS, cell, fuses)?;
     }
@@ -84,16 +59,6 @@ fn ac0_fuse(mode: Mode) -> bool
     ensures { result ≡ written.ac0_fuse mode }
 {
     mode != Mode::Simple
-}
-
-/// Adds so many bits of one state.
-fn push_states(count: usize, state: bool, fuses: &mut Vec<bool>) -> Result<(), AllocError>
-    ensures { OnOk result (fuses.new.items ≡ fuses.old.items ++ replicate count state) }
-{
-    for _bit in 0..count {
-        fuses.push(state)?;
-    }
-    Ok(())
 }
 
 /// Adds the XOR bits, by falling pin.

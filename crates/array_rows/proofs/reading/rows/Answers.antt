@@ -14,6 +14,6 @@ loop-r-preserved c =
     let n = r - c.args.first in
     let more : r + 1 - c.args.first ≡ n + 1 = omega arith in
     let here : c.args.first + n ≡ r = omega arith in
-    c.in_ok-push.ensures.items ∙ ap (λ (rows : List Row). rows ++ c.in_ok-row.field-0 ∷ []) c.loop-r.invariant
+    c.in_ok-push.ensures.items ∙ ap (λ (rows : List Row). rows ++ c.in_ok-array_row.field-0 ∷ []) c.loop-r.invariant
     ∙ ap (λ (row : Row). made_from f c.args.first n ++ row ∷ []) (search rules ∙ sym (ap f here))
     ∙ sym (made_from-more f c.args.first n (r + 1 - c.args.first) more)

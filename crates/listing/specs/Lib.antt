@@ -1,0 +1,2 @@
+pub mod ListedChip
+pub mod SpacedWords

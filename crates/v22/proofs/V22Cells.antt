@@ -1,0 +1,152 @@
+-- A macrocell of a GAL22V10 is made again by its own settings and rows, and its rows fit its array.
+use Rattle.std.proofs.Common.{ℕ, suc, ◌≡◌, ◌+◌, ◌-◌, ◌<◌, ◌≤◌, Bool, true, false, not, ◌||◌, if◌then◌else◌, List, [], ◌∷◌, ◌++◌, map, replicate, reverse, length, refl, sym, ap, ◌∙◌, subst, arith, IsTrue, Ok}
+use Rattle.std.specs.Prelude.{◌==◌}
+use Rattle.std.specs.List.{AllByRecursion}
+use Rattle.std.proofs.lemmas.List.{length-append, length-map}
+use Rattle.std.proofs.lemmas.Bool.{lt-ltb}
+use Rattle.mig_base.specs.declared.kinds.Kind.{Kind}
+use Rattle.mig_base.specs.declared.kinds.Kind.TheVariants.{Gal22V10, Gal22V10Q}
+use Rattle.mig_base.specs.declared.kinds.Mode.TheVariants.{Fixed}
+use Rattle.mig_base.specs.declared.cells.Lit.{Lit}
+use Rattle.mig_base.specs.declared.cells.Row.{Row}
+use Rattle.mig_base.specs.declared.cells.Row.TheVariants as row
+use Rattle.mig_base.specs.declared.cells.Enable.{Enable}
+use Rattle.mig_base.specs.declared.cells.Enable.TheVariants as enable
+use Rattle.mig_base.specs.declared.cells.Form.{Form}
+use Rattle.mig_base.specs.declared.cells.Form.TheVariants as form
+use Rattle.mig_base.specs.declared.cells.Cell.{Cell}
+use Rattle.mig_base.specs.First.{made_from}
+use Rattle.mig_base.specs.DeviceTables.{pair_pins, columns_22, cell_pins, enable_pin, rows_22, has_count, even_reads_q, is_22, is_v8, is_gal}
+use Rattle.mig_base.specs.Cells as cells
+use Rattle.mig_base.specs.WellFormed.{is_never, has_enable_row, is_low_pin, FitsCell, has_enable, has_inversions, most_terms, fits_row, fits_control}
+use Rattle.mig_base.specs.WrittenCells.{enable_rows, cell_rows}
+use Rattle.mig_base.proofs.ListLaws.{and-left, and-right, not-true, not-twice, all-append}
+use Rattle.mig_base.proofs.RowLaws.{IsDistinct, FitsColumns, distinct_pins, columns-distinct, length-columns}
+use Rattle.mig_base.proofs.MacrocellLaws.{cell_with, idle-is, comb-terms, terms-read, one-enable, filled-long, own_rows, never-fits, terms-fit, enable-row-fits, never-row-fits}
+use Rattle.v22.specs.Written22.{row_count, rows_of_cell, s0_fuse, s1_fuse}
+
+-- the macrocell pins, falling
+abbrev pub falling_pins : List ℕ
+falling_pins = 23 ∷ 22 ∷ 21 ∷ 20 ∷ 19 ∷ 18 ∷ 17 ∷ 16 ∷ 15 ∷ 14 ∷ []
+
+-- what the tables of a GAL22V10 hold
+pub record IsV22Table (k : Kind) : Type 0 where
+  pub is : is_22 k ≡ true
+  pub not_v8 : is_v8 k ≡ false
+  pub pins : cell_pins k ≡ made_from (λ (p : ℕ). p) 14 10
+  pub falling : reverse (cell_pins k) ≡ falling_pins
+  pub pairs : pair_pins k Fixed ≡ columns_22
+  pub count : (n : ℕ) → has_count k n ≡ ((n == 5828) || (n == 5892))
+  pub made : (bits : List Bool) → cells.cells_by_kind k bits ≡ Ok (cells.cells_22 k bits)
+
+pub v22-table : (k : Kind) → IsTrue (is_22 k) → IsV22Table k
+v22-table Gal22V10 h = record { is = refl; not_v8 = refl; pins = refl; falling = refl; pairs = refl; count = λ n. refl; made = λ bits. refl }
+v22-table Gal22V10Q h = record { is = refl; not_v8 = refl; pins = refl; falling = refl; pairs = refl; count = λ n. refl; made = λ bits. refl }
+v22-table _ h = cc
+
+pub v22-width : (k : Kind) (registers : List ℕ) → IsTrue (is_22 k) → length (cells.columns_of k Fixed registers) ≡ 44
+v22-width k registers h =
+    length-columns (even_reads_q k) registers (pair_pins k Fixed)
+    ∙ (let few : length (pair_pins k Fixed) ≡ 22 = ap length (v22-table k h).pairs in omega arith)
+
+pub v22-distinct : (k : Kind) (registers : List ℕ) → IsTrue (is_22 k) → IsDistinct (cells.columns_of k Fixed registers)
+v22-distinct k registers h = columns-distinct (even_reads_q k) registers (pair_pins k Fixed) (ap distinct_pins (v22-table k h).pairs)
+
+-- made again
+
+-- a cell of so many rows, read from its own settings and rows
+abbrev pub of_cell : ℕ → Cell → Cell
+of_cell n cell = if s1_fuse cell
+    then cells.comb_cell cell.pin (not (s0_fuse cell)) (cell_rows Fixed n cell)
+    else cells.reg_cell_22 cell.pin (not (s0_fuse cell)) (cell_rows Fixed n cell)
+
+abbrev term_rows : List (List Lit) → List Row
+term_rows terms = map (λ (lits : List Lit). row.Product lits) terms
+
+comb-again : (n pin : ℕ) (low : Bool) (columns : List Lit) (e : Enable) (terms : List (List Lit)) → has_enable_row columns e ≡ true →
+    of_cell n (cell_with pin form.Comb low false e terms) ≡ cell_with pin form.Comb low false e terms
+comb-again n pin low columns enable.Never terms h = cc
+comb-again n pin low columns (enable.LowPin p) terms h = cc
+comb-again n pin low columns (enable.Term []) terms h = cc
+comb-again n pin low columns enable.Always terms h = comb-terms pin low enable.Always terms (n - suc (length (term_rows terms)))
+comb-again n pin low columns (enable.Term (l ∷ ls)) terms h = comb-terms pin low (enable.Term (l ∷ ls)) terms (n - suc (length (term_rows terms)))
+
+reg-terms : (pin : ℕ) (pin_low : Bool) (e : Enable) (terms : List (List Lit)) (n : ℕ) →
+    cell_with pin form.Reg false (not (not pin_low)) e (cells.terms_of (term_rows terms ++ replicate n row.Never)) ≡ cell_with pin form.Reg false pin_low e terms
+reg-terms pin pin_low e terms n =
+    ap (λ (b : Bool). cell_with pin form.Reg false b e (cells.terms_of (term_rows terms ++ replicate n row.Never))) (not-twice pin_low)
+    ∙ ap (cell_with pin form.Reg false pin_low e) (terms-read terms n)
+
+reg-again : (n pin : ℕ) (pin_low : Bool) (columns : List Lit) (e : Enable) (terms : List (List Lit)) → (is_never e || has_enable_row columns e) ≡ true →
+    of_cell n (cell_with pin form.Reg false pin_low e terms) ≡ cell_with pin form.Reg false pin_low e terms
+reg-again n pin pin_low columns (enable.LowPin p) terms h = cc
+reg-again n pin pin_low columns (enable.Term []) terms h = cc
+reg-again n pin pin_low columns enable.Never terms h = reg-terms pin pin_low enable.Never terms (n - suc (length (term_rows terms)))
+reg-again n pin pin_low columns enable.Always terms h = reg-terms pin pin_low enable.Always terms (n - suc (length (term_rows terms)))
+reg-again n pin pin_low columns (enable.Term (l ∷ ls)) terms h = reg-terms pin pin_low (enable.Term (l ∷ ls)) terms (n - suc (length (term_rows terms)))
+
+reg-enable : (k : Kind) (columns : List Lit) (e : Enable) → IsV22Table k → has_enable k Fixed columns form.Reg e ≡ true → (is_never e || has_enable_row columns e) ≡ true
+reg-enable k columns e t h = subst (λ (b : Bool). (if b then is_never e || has_enable_row columns e else is_low_pin (enable_pin k) e) ≡ true) t.is h
+
+reg-low : (k : Kind) (low pin_low : Bool) → IsV22Table k → has_inversions k form.Reg low pin_low ≡ true → low ≡ false
+reg-low k low pin_low t h = not-true low (subst (λ (b : Bool). (b || not low) ≡ true) t.not_v8 (and-left (is_v8 k || not low) (is_22 k || pin_low) h))
+
+cell-by : (n : ℕ) (k : Kind) (columns : List Lit) (pin : ℕ) (f : Form) (low pin_low : Bool) (e : Enable) (terms : List (List Lit)) → IsV22Table k →
+    has_inversions k f low pin_low ≡ true → has_enable k Fixed columns f e ≡ true → length terms ≤ most_terms k Fixed pin f →
+    of_cell n (cell_with pin f low pin_low e terms) ≡ cell_with pin f low pin_low e terms
+cell-by n k columns pin form.Idle low pin_low e terms t hi he m =
+    let is = idle-is pin low pin_low e terms hi he m in
+    ap (of_cell n) is ∙ sym is
+cell-by n k columns pin form.Comb low pin_low e terms t hi he m =
+    let shown : false ≡ pin_low = sym (not-true pin_low (and-right (is_gal k || low) (not pin_low) hi)) in
+    subst (λ (b : Bool). of_cell n (cell_with pin form.Comb low b e terms) ≡ cell_with pin form.Comb low b e terms) shown (comb-again n pin low columns e terms he)
+cell-by n k columns pin form.Reg low pin_low e terms t hi he m =
+    subst (λ (b : Bool). of_cell n (cell_with pin form.Reg b pin_low e terms) ≡ cell_with pin form.Reg b pin_low e terms) (sym (reg-low k low pin_low t hi))
+    (reg-again n pin pin_low columns e terms (reg-enable k columns e t he))
+
+-- a cell that fits is made again
+pub cell-again : (n : ℕ) (k : Kind) (columns : List Lit) (cell : Cell) → IsV22Table k → FitsCell k Fixed columns cell → of_cell n cell ≡ cell
+cell-again n k columns cell t h = cell-by n k columns cell.pin cell.form cell.low cell.pin_low cell.enable cell.terms t h.inversions h.enable h.count
+
+-- how many rows
+
+most : (k : Kind) (pin : ℕ) (f : Form) (n : ℕ) → IsV22Table k → n ≤ most_terms k Fixed pin f → n ≤ (rows_22 pin).1
+most k pin form.Idle n t h = omega arith
+most k pin form.Comb n t h = subst (λ (b : Bool). n ≤ (if b then (rows_22 pin).1 else 7)) t.is h
+most k pin form.Reg n t h = subst (λ (b : Bool). n ≤ (if b then (rows_22 pin).1 else 8)) t.is h
+
+pub rows-long : (k : Kind) (columns : List Lit) (cell : Cell) → IsV22Table k → FitsCell k Fixed columns cell → length (rows_of_cell Fixed cell) ≡ row_count cell.pin
+rows-long k columns cell t h =
+    let few : length cell.terms ≤ (rows_22 cell.pin).1 = most k cell.pin cell.form (length cell.terms) t h.count in
+    let one : length (enable_rows Fixed cell.enable) ≤ 1 = one-enable Fixed cell.enable in
+    let long : length (own_rows Fixed cell) ≡ length (enable_rows Fixed cell.enable) + length cell.terms =
+    length-append (enable_rows Fixed cell.enable) (term_rows cell.terms)
+    ∙ ap (λ (n : ℕ). length (enable_rows Fixed cell.enable) + n) (length-map cell.terms (λ (lits : List Lit). row.Product lits)) in
+    filled-long (row_count cell.pin) (own_rows Fixed cell) (omega arith)
+
+-- rows that fit
+
+reg-row-fits : (columns : List Lit) (e : Enable) → 0 < length columns → (is_never e || has_enable_row columns e) ≡ true → AllByRecursion (FitsColumns columns) (enable_rows Fixed e)
+reg-row-fits columns enable.Never n h = (tt, tt)
+reg-row-fits columns enable.Always n h = (lt-ltb 0 (length columns) n, tt)
+reg-row-fits columns (enable.LowPin p) n h = cc
+reg-row-fits columns (enable.Term []) n h = cc
+reg-row-fits columns (enable.Term (l ∷ ls)) n h = (h, tt)
+
+enable-fits : (k : Kind) (columns : List Lit) (f : Form) (e : Enable) → IsV22Table k → 0 < length columns → has_enable k Fixed columns f e ≡ true →
+    AllByRecursion (FitsColumns columns) (enable_rows Fixed e)
+enable-fits k columns form.Idle e t n h = never-row-fits columns Fixed e h
+enable-fits k columns form.Comb e t n h = enable-row-fits columns Fixed e n h
+enable-fits k columns form.Reg e t n h = reg-row-fits columns e n (reg-enable k columns e t h)
+
+pub rows-fit : (k : Kind) (columns : List Lit) (cell : Cell) → IsV22Table k → 0 < length columns → FitsCell k Fixed columns cell →
+    AllByRecursion (FitsColumns columns) (rows_of_cell Fixed cell)
+rows-fit k columns cell t n h =
+    let first = enable-fits k columns cell.form cell.enable t n h.enable in
+    let own = all-append (FitsColumns columns) (enable_rows Fixed cell.enable) (term_rows cell.terms) first (terms-fit columns cell.terms h.terms) in
+    all-append (FitsColumns columns) (own_rows Fixed cell) (replicate (row_count cell.pin - length (own_rows Fixed cell)) row.Never) own (never-fits columns (row_count cell.pin - length (own_rows Fixed cell)))
+
+-- a reset or preset row
+pub control-fits : (k : Kind) (columns : List Lit) (r : Row) → fits_control k columns r ≡ true → FitsColumns columns r
+control-fits k columns row.Never h = tt
+control-fits k columns (row.Product lits) h = and-right (is_22 k) (fits_row columns lits) h
