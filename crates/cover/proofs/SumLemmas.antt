@@ -3,14 +3,14 @@ use Rattle.std.proofs.Common.{◌≡◌, ℕ, zero, suc, ◌+◌, ◌<◌, ◌�
 use Rattle.std.proofs.lemmas.Bool.Decides.{nat_tests}
 use Rattle.std.proofs.lemmas.List.{take_more, get_or_push}
 use Rattle.std.proofs.Math.ListN.{get_or-append}
-use Rattle.std.specs.List.{All}
+use Rattle.std.specs.List.{All, remove}
 use Rattle.std.specs.Cmp.Derive.{both_true}
 use Rattle.bdd.specs.Tree.{Tree, Leaf, Branch, holds, IsNormal}
 use Rattle.bdd.specs.Diagram.{Diagram, IsValid, tree, function_of, IsCanonical, Keeps, IsConstant, IsConjunction, IsDisjunction, ref_at}
 use Rattle.bdd.specs.declared.Ref.{Ref}
 use Rattle.bdd.proofs.TreeLemmas.{with_var, with_var_same}
 use Rattle.bdd.proofs.Equality.{and_left, and_right}
-use Rattle.primes.specs.Prime.{Point, Function, Literal, Product, lies_in, suits, without, IsRising, IsPrime, in_some}
+use Rattle.primes.specs.Prime.{Point, Function, Literal, Product, lies_in, suits, IsRising, IsPrime, in_some}
 use Rattle.primes.proofs.PrimeLemmas.{IsFreeOf, suits_self, lies_with_var}
 use Rattle.cover.specs.Sums.{IsWithin, IsLiteralRef, IsProductRef, IsSumRef, AreSumsBefore}
 use Rattle.cover.proofs.CoverLemmas.{in_some_append}
@@ -32,7 +32,7 @@ rising_at (x ∷ t) j zero d r l = r.0
 rising_at (x ∷ t) j (suc k) d r l = let h = rising_at t (x.0 + 1) k d r.1 (omega arith) in omega (arith, r.0)
 
 -- a point in the product without a literal, moved to where that literal holds, is in the product
-lies_put : (t : Product) (j k : ℕ) (d : Literal) (p : Point) → IsRising j t → k < length t → lies_in (without t k) p ≡ true
+lies_put : (t : Product) (j k : ℕ) (d : Literal) (p : Point) → IsRising j t → k < length t → lies_in (remove t k) p ≡ true
     → lies_in t (with_var p (get_or t k d).0 (get_or t k d).1) ≡ true
 lies_put [] j k d p r l m = absurd (omega arith)
 lies_put (x ∷ t) j zero d p r l m =
@@ -40,8 +40,8 @@ lies_put (x ∷ t) j zero d p r l m =
 lies_put (x ∷ t) j (suc k) d p r l m =
     let g = get_or t k d in
     let lt : x.0 < g.0 = omega (arith, rising_at t (x.0 + 1) k d r.1 (omega arith)) in
-    both_true (ap (λ c. suits c x.1) (sym (with_var_before p g.0 g.1 x.0 lt)) ∙ and_left (suits (p x.0) x.1) (lies_in (without t k) p) m)
-    (lies_put t (x.0 + 1) k d p r.1 (omega arith) (and_right (suits (p x.0) x.1) (lies_in (without t k) p) m))
+    both_true (ap (λ c. suits c x.1) (sym (with_var_before p g.0 g.1 x.0 lt)) ∙ and_left (suits (p x.0) x.1) (lies_in (remove t k) p) m)
+    (lies_put t (x.0 + 1) k d p r.1 (omega arith) (and_right (suits (p x.0) x.1) (lies_in (remove t k) p) m))
 
 -- a prime has no literal of a place that the function is free of
 pub prime_within : (f : Function) (n : ℕ) (t : Product) → ((w : ℕ) → n ≤ w → IsFreeOf f w) → IsPrime f t → IsWithin n t

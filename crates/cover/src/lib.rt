@@ -1,9 +1,9 @@
 //! The cover of a Boolean function: its primes without those that are not needed, the last deleted first.
 #![tactic(auto)]
 
-ghost use Rattle.std.specs.Prelude.{◌≡◌, ℕ, Bool, IfOk, IfErr, OnOk};
+ghost use Rattle.std.specs.Prelude.{◌≡◌, ℕ, Bool, List, IfOk, IfErr, OnOk};
 ghost use Rattle.bdd.specs.Diagram.{IsValid, function_of, IsCanonical, Keeps};
-ghost use Rattle.primes.specs.Prime.{in_some, HasMorePrimes};
+ghost use Rattle.primes.specs.Prime.{Function, Product, in_some, HasMorePrimes};
 ghost use Rattle.primes.specs.Refusal.{IsRefusal};
 ghost use Rattle.cover.specs.Cover.{IsCover, IsIrredundant};
 
@@ -19,7 +19,8 @@ use std::alloc::Global;
 /// The cover of `f`: of its primes, in their order, each is deleted from the last to the first where those left still
 /// cover `f`.
 ///
-/// `Over` where `f` has more than `most` primes. After any answer the graph may have more nodes.
+/// `Over` where `f` has more than `most` primes, and `Memory` where there is none left. After any answer the graph may
+/// have more nodes, and earlier refs keep their functions.
 pub fn cover(alloc: Global, graph: &mut Graph, f: Ref, most: u32) -> Result<Vec<Term>, PrimeError>
     requires { IsValid graph.old f }
     ensures keeps { Keeps graph.old graph.new }
@@ -35,3 +36,8 @@ pub fn cover(alloc: Global, graph: &mut Graph, f: Ref, most: u32) -> Result<Vec<
     let terms = primes(alloc, graph, f, most)?;
     Ok(reduction::reduced(alloc, graph, f, terms.as_slice())?)
 }
+
+/// A function has no other cover.
+pub fn cover_is_unique()
+    ensures { (f : Function) (ts us : List Product) → IsCover f ts → IsCover f us → ts ≡ us }
+{}

@@ -7,40 +7,8 @@ ghost use Rattle.cover.specs.Sums.{IsWithin};
 
 use crate::sums::{product, sums_before};
 use bdd::{Graph, NoNode, Ref};
-use primes::{PrimeError, Term};
-use std::alloc::{AllocError, AllocFailed, Global};
-
-/// There is no memory.
-#[derive(Clone, Copy)]
-pub(crate) struct NoRoom;
-
-impl From<AllocError> for NoRoom {
-    fn from(_error: AllocError) -> NoRoom {
-        NoRoom
-    }
-}
-
-impl<T: Drop> From<AllocFailed<T>> for NoRoom {
-    fn from(_error: AllocFailed<T>) -> NoRoom {
-        NoRoom
-    }
-}
-
-impl From<NoNode> for NoRoom {
-    fn from(_error: NoNode) -> NoRoom {
-        NoRoom
-    }
-}
-
-impl From<NoRoom> for PrimeError {
-    ghost use Rattle.primes.specs.declared.PrimeError.TheVariants.{Memory};
-
-    ghost from_gives = { λ _ e. e ≡ Memory };
-
-    fn from(_error: NoRoom) -> PrimeError {
-        PrimeError::Memory
-    }
-}
+use primes::Term;
+use std::alloc::Global;
 
 /// What is left of the terms when, from the last to the first, each is deleted where those left still cover `f`.
 pub(crate) fn reduced(
@@ -48,7 +16,7 @@ pub(crate) fn reduced(
     graph: &mut Graph,
     f: Ref,
     terms: &[Term],
-) -> Result<Vec<Term>, NoRoom>
+) -> Result<Vec<Term>, NoNode>
     requires valid { IsValid graph.old f }
     requires within { All (IsWithin graph.old.vars) terms.now }
     requires implicants { All (IsImplicant (function_of graph.old f)) terms.now }

@@ -3,7 +3,6 @@ ghost use Rattle.std.specs.Prelude.{◌<◌, IfOk, All, length};
 ghost use Rattle.bdd.specs.Diagram.{IsCanonical, Keeps};
 ghost use Rattle.cover.specs.Sums.{IsWithin, IsLiteralRef, IsProductRef, AreSumsBefore};
 
-use crate::reduction::NoRoom;
 use bdd::{Graph, NoNode, Ref};
 use primes::Term;
 use std::alloc::Global;
@@ -42,7 +41,7 @@ pub(crate) fn sums_before(
     alloc: Global,
     graph: &mut Graph,
     terms: &[Term],
-) -> Result<Vec<Ref>, NoRoom>
+) -> Result<Vec<Ref>, NoNode>
     requires { All (IsWithin graph.old.vars) terms.now }
     ensures keeps { Keeps graph.old graph.new }
     ensures canonical { IsCanonical graph.new }

@@ -1,16 +1,7 @@
 use crate::cover;
 use bdd::Graph;
-use primes::Term;
+use primes::PrimeError;
 use std::test::Fail;
-
-/// The terms are these products.
-fn are(terms: &[Term], wanted: &[&[(u32, bool)]]) -> bool {
-    terms.len() == wanted.len()
-        && terms
-            .iter()
-            .zip(wanted)
-            .all(|(term, items)| term.items() == *items)
-}
 
 #[test]
 fn cover_of_a_choice(rt: HostRuntime) -> Result<(), Fail> {
@@ -20,12 +11,9 @@ fn cover_of_a_choice(rt: HostRuntime) -> Result<(), Fail> {
     let c = graph.var(2)?;
     let f = graph.ite(a, b, c)?;
     let terms = cover(rt.alloc(), &mut graph, f, 4096)?;
-    assert!(rt;
-        are(
-            terms.as_slice(),
-            &[&[(0, true), (1, true)], &[(0, false), (2, true)]]
-        )
-    );
+    assert_eq!(rt; terms.len(), 2);
+    assert_eq!(rt; terms[0].items(), [(0, true), (1, true)].as_slice());
+    assert_eq!(rt; terms[1].items(), [(0, false), (2, true)].as_slice());
     Ok(())
 }
 
@@ -39,11 +27,23 @@ fn cover_over_two_rails(rt: HostRuntime) -> Result<(), Fail> {
     let either = graph.or(a, not_a)?;
     let f = graph.and(either, b)?;
     let terms = cover(rt.alloc(), &mut graph, f, 4096)?;
-    assert!(rt;
-        are(
-            terms.as_slice(),
-            &[&[(0, true), (2, true)], &[(1, true), (2, true)]]
-        )
-    );
+    assert_eq!(rt; terms.len(), 2);
+    assert_eq!(rt; terms[0].items(), [(0, true), (2, true)].as_slice());
+    assert_eq!(rt; terms[1].items(), [(1, true), (2, true)].as_slice());
+    Ok(())
+}
+
+#[test]
+fn covers_of_constants(rt: HostRuntime) -> Result<(), Fail> {
+    let mut graph = Graph::new(rt.alloc(), 2)?;
+    let zero = graph.constant(false);
+    let none = cover(rt.alloc(), &mut graph, zero, 0)?;
+    assert!(rt; none.is_empty());
+    let one = graph.constant(true);
+    let refusal = cover(rt.alloc(), &mut graph, one, 0).err();
+    assert_eq!(rt; refusal, Some(PrimeError::Over { most: 0 }));
+    let terms = cover(rt.alloc(), &mut graph, one, 1)?;
+    assert_eq!(rt; terms.len(), 1);
+    assert!(rt; terms[0].items().is_empty());
     Ok(())
 }

@@ -4,3 +4,4 @@ pub mod ChoiceLemmas
 pub mod TermLemmas
 pub mod SearchLemmas
 pub mod ResultLemmas
+pub mod UniqueLemmas

@@ -1,9 +1,10 @@
 -- The primes of a choice, by those of its sides and of what they share.
 use Rattle.std.proofs.Common.{◌≡◌, ℕ, zero, suc, ◌+◌, ◌<◌, ◌≤◌, Bool, true, false, ◌&&◌, cond, refl, sym, ◌∙◌, ap, arith, nat_eq, ◌⊎◌, inl, inr, [], ◌∷◌, length, true≢false}
+use Rattle.std.specs.List.{remove}
 use Rattle.std.specs.Cmp.Derive.{both_true}
 use Rattle.bdd.proofs.TreeLemmas.{with_var, with_var_same, with_var_other}
 use Rattle.bdd.proofs.Equality.{and_left, and_right}
-use Rattle.primes.specs.Prime.{Point, Product, Function, suits, lies_in, without, IsRising, IsImplicant, IsPrime}
+use Rattle.primes.specs.Prime.{Point, Product, Function, suits, lies_in, IsRising, IsImplicant, IsPrime}
 
 pub suits_self : (b : Bool) → suits b b ≡ true
 suits_self true = refl
@@ -28,10 +29,11 @@ rising_weaken [] j k l r = tt
 rising_weaken (x ∷ t) j k l r = (omega arith, r.1)
 
 -- taking a literal out leaves a product from k on
-rising_without : (t : Product) (k i : ℕ) → IsRising k t → IsRising k (without t i)
-rising_without [] k i r = tt
-rising_without (x ∷ t) k zero r = rising_weaken t k (x.0 + 1) (omega arith) r.1
-rising_without (x ∷ t) k (suc i) r = (r.0, rising_without t (x.0 + 1) i r.1)
+rising_remove : (t : Product) (k i : ℕ) → IsRising k t → IsRising k (remove t i)
+rising_remove [] k zero r = tt
+rising_remove [] k (suc i) r = tt
+rising_remove (x ∷ t) k zero r = rising_weaken t k (x.0 + 1) (omega arith) r.1
+rising_remove (x ∷ t) k (suc i) r = (r.0, rising_remove t (x.0 + 1) i r.1)
 
 -- a function that does not change with the place w
 abbrev pub IsFreeOf : Function → ℕ → Type 0
@@ -91,14 +93,14 @@ module _ (v : ℕ) (low high : Function) (low_free : IsFreeOf low v) (high_free 
   prime_both t r h = record {
     rising = h.rising;
     implicant = inside_both t r h.implicant;
-    largest = λ i l m. h.largest i l (both_inside (without t i) m);
+    largest = λ i l m. h.largest i l (both_inside (remove t i) m);
   }
 
   pub both_prime : (t : Product) → IsRising (v + 1) t → IsPrime (both low high) t → IsPrime (choice v low high) t
   both_prime t r h = record {
     rising = h.rising;
     implicant = both_inside t h.implicant;
-    largest = λ i l m. h.largest i l (inside_both (without t i) (rising_without t (v + 1) i r) m);
+    largest = λ i l m. h.largest i l (inside_both (remove t i) (rising_remove t (v + 1) i r) m);
   }
 
   -- the primes with v false are the primes of the low side that do not lie inside both
@@ -106,7 +108,7 @@ module _ (v : ℕ) (low high : Function) (low_free : IsFreeOf low v) (high_free 
   prime_low t r h = record {
     rising = rising_weaken t 0 (v + 1) (omega arith) r;
     implicant = inside_low t r h.implicant;
-    largest = λ i l m. h.largest (suc i) (omega arith) (low_inside (without t i) m);
+    largest = λ i l m. h.largest (suc i) (omega arith) (low_inside (remove t i) m);
   }
 
   pub prime_low_apart : (t : Product) → IsPrime (choice v low high) ((v, false) ∷ t) → IsPrime (both low high) t → ⊥
@@ -127,15 +129,15 @@ module _ (v : ℕ) (low high : Function) (low_free : IsFreeOf low v) (high_free 
     largest = largest;
   }
     where
-      largest : (i : ℕ) → i < length ((v, false) ∷ t) → IsImplicant (choice v low high) (without ((v, false) ∷ t) i) → ⊥
+      largest : (i : ℕ) → i < length ((v, false) ∷ t) → IsImplicant (choice v low high) (remove ((v, false) ∷ t) i) → ⊥
       largest zero l m = apart (prime_of_both t h (inside_both t r m))
-      largest (suc i) l m = h.largest i (omega arith) (inside_low (without t i) (rising_without t (v + 1) i r) m)
+      largest (suc i) l m = h.largest i (omega arith) (inside_low (remove t i) (rising_remove t (v + 1) i r) m)
 
   pub prime_high : (t : Product) → IsRising (v + 1) t → IsPrime (choice v low high) ((v, true) ∷ t) → IsPrime high t
   prime_high t r h = record {
     rising = rising_weaken t 0 (v + 1) (omega arith) r;
     implicant = inside_high t r h.implicant;
-    largest = λ i l m. h.largest (suc i) (omega arith) (high_inside (without t i) m);
+    largest = λ i l m. h.largest (suc i) (omega arith) (high_inside (remove t i) m);
   }
 
   pub prime_high_apart : (t : Product) → IsPrime (choice v low high) ((v, true) ∷ t) → IsPrime (both low high) t → ⊥
@@ -155,9 +157,9 @@ module _ (v : ℕ) (low high : Function) (low_free : IsFreeOf low v) (high_free 
     largest = largest;
   }
     where
-      largest : (i : ℕ) → i < length ((v, true) ∷ t) → IsImplicant (choice v low high) (without ((v, true) ∷ t) i) → ⊥
+      largest : (i : ℕ) → i < length ((v, true) ∷ t) → IsImplicant (choice v low high) (remove ((v, true) ∷ t) i) → ⊥
       largest zero l m = apart (prime_of_both_high t h (inside_both t r m))
-      largest (suc i) l m = h.largest i (omega arith) (inside_high (without t i) (rising_without t (v + 1) i r) m)
+      largest (suc i) l m = h.largest i (omega arith) (inside_high (remove t i) (rising_remove t (v + 1) i r) m)
 
 -- a function free of each place below v has no prime with a literal below v
 pub prime_from : (f : Function) (v : ℕ) (t : Product) → ((w : ℕ) → w < v → IsFreeOf f w) → IsPrime f t → IsRising v t

@@ -1,11 +1,10 @@
 -- The primes of a function, as sets of points.
 use Rattle.std.specs.Prelude.{◌≡◌, ◌≢◌, ◌↔◌, ℕ, ◌+◌, ◌<◌, ◌≤◌, Bool, true, false, not, ◌&&◌, ◌||◌, List, [], ◌∷◌, length}
-use Rattle.std.proofs.Common.{zero, suc}
 use Rattle.std.specs.declared.cmp.Ordering.{Ordering}
 use Rattle.std.specs.declared.cmp.Ordering.TheVariants.{Less}
 use Rattle.std.specs.Ordering.{nat_cmp, bool_cmp, ordering_then}
 use Rattle.std.specs.Cmp.Lexicographic.{slice_cmp}
-use Rattle.std.specs.List.{All, AllPairs, Contains}
+use Rattle.std.specs.List.{All, AllPairs, Contains, remove}
 
 -- the values of the places
 abbrev pub Point : Type 0
@@ -47,12 +46,6 @@ abbrev pub IsRising : ℕ → Product → Type 0
 IsRising k [] = Unit {0}
 IsRising k (l ∷ t) = (k ≤ l.0) × IsRising (l.0 + 1) t
 
--- the product with one literal taken out
-abbrev pub without : Product → ℕ → Product
-without [] i = []
-without (l ∷ t) zero = t
-without (l ∷ t) (suc i) = l ∷ without t i
-
 -- the product is true nowhere outside the function
 abbrev pub IsImplicant : Function → Product → Type 0
 IsImplicant f t = (p : Point) → lies_in t p ≡ true → f p ≡ true
@@ -61,7 +54,7 @@ IsImplicant f t = (p : Point) → lies_in t p ≡ true → f p ≡ true
 pub record IsPrime (f : Function) (t : Product) : Type 0 where
   pub rising : IsRising 0 t
   pub implicant : IsImplicant f t
-  pub largest : (i : ℕ) → i < length t → IsImplicant f (without t i) → ⊥
+  pub largest : (i : ℕ) → i < length t → IsImplicant f (remove t i) → ⊥
 
 -- literals in order: by place, plain before negated
 abbrev pub literal_cmp : Literal → Literal → Ordering

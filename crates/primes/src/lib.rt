@@ -1,9 +1,9 @@
 //! All primes of a Boolean function, from its decision diagram (the recursion of Coudert and Madre 1992).
 #![tactic(auto)]
 
-ghost use Rattle.std.specs.Prelude.{◌≡◌, ◌≤◌, length, IfOk, IfErr, OnOk};
+ghost use Rattle.std.specs.Prelude.{◌≡◌, ◌≤◌, List, length, IfOk, IfErr, OnOk};
 ghost use Rattle.bdd.specs.Diagram.{IsValid, function_of, IsCanonical, Keeps};
-ghost use Rattle.primes.specs.Prime.{Covers, IsPrimeList, HasMorePrimes};
+ghost use Rattle.primes.specs.Prime.{Function, Product, Covers, IsPrimeList, HasMorePrimes};
 ghost use Rattle.primes.specs.Refusal.{IsRefusal};
 ghost use Rattle.primes.specs.declared.PrimeError.TheVariants.{Memory};
 
@@ -65,7 +65,8 @@ impl From<NoNode> for PrimeError {
 
 /// All primes of `f`, by number of literals and then by the list of literals, plain before negated.
 ///
-/// `Over` where there are more than `most`. After any answer the graph may have more nodes.
+/// `Over` where there are more than `most`, and `Memory` where there is none left. After any answer the graph may have
+/// more nodes, and earlier refs keep their functions.
 pub fn primes(alloc: Global, graph: &mut Graph, f: Ref, most: u32) -> Result<Vec<Term>, PrimeError>
     requires { IsValid graph.old f }
     ensures keeps { Keeps graph.old graph.new }
@@ -80,3 +81,8 @@ pub fn primes(alloc: Global, graph: &mut Graph, f: Ref, most: u32) -> Result<Vec
     terms.sort_by(terms::compare)?;
     Ok(terms)
 }
+
+/// A function has no other list of all its primes.
+pub fn primes_are_unique()
+    ensures { (f : Function) (ts us : List Product) → IsPrimeList f ts → IsPrimeList f us → ts ≡ us }
+{}

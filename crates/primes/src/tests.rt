@@ -1,18 +1,9 @@
 ghost use Rattle.std.specs.Prelude.{◌≡◌, ◌≤◌, IfOk};
 ghost use Rattle.bdd.specs.Diagram.{IsValid, Keeps};
 
-use crate::{PrimeError, Term, primes};
+use crate::{PrimeError, primes};
 use bdd::{Graph, NoNode, Ref};
 use std::test::Fail;
-
-/// The terms are these products.
-fn are(terms: &[Term], wanted: &[&[(u32, bool)]]) -> bool {
-    terms.len() == wanted.len()
-        && terms
-            .iter()
-            .zip(wanted)
-            .all(|(term, items)| term.items() == *items)
-}
 
 #[test]
 fn primes_of_a_choice(rt: HostRuntime) -> Result<(), Fail> {
@@ -22,16 +13,10 @@ fn primes_of_a_choice(rt: HostRuntime) -> Result<(), Fail> {
     let c = graph.var(2)?;
     let f = graph.ite(a, b, c)?;
     let terms = primes(rt.alloc(), &mut graph, f, 3)?;
-    assert!(rt;
-        are(
-            terms.as_slice(),
-            &[
-                &[(0, true), (1, true)],
-                &[(0, false), (2, true)],
-                &[(1, true), (2, true)]
-            ]
-        )
-    );
+    assert_eq!(rt; terms.len(), 3);
+    assert_eq!(rt; terms[0].items(), [(0, true), (1, true)].as_slice());
+    assert_eq!(rt; terms[1].items(), [(0, false), (2, true)].as_slice());
+    assert_eq!(rt; terms[2].items(), [(1, true), (2, true)].as_slice());
     Ok(())
 }
 
@@ -56,7 +41,8 @@ fn primes_of_constants(rt: HostRuntime) -> Result<(), Fail> {
     let refusal = primes(rt.alloc(), &mut graph, one, 0).err();
     assert_eq!(rt; refusal, Some(PrimeError::Over { most: 0 }));
     let terms = primes(rt.alloc(), &mut graph, one, 1)?;
-    assert!(rt; are(terms.as_slice(), &[&[]]));
+    assert_eq!(rt; terms.len(), 1);
+    assert!(rt; terms[0].items().is_empty());
     Ok(())
 }
 
@@ -113,5 +99,17 @@ fn primes_of_many_variables(rt: HostRuntime) -> Result<(), Fail> {
     let f = pairs(&mut graph)?;
     let terms = primes(rt.alloc(), &mut graph, f, 32)?;
     assert_eq!(rt; terms.len(), 32);
+    assert_eq!(rt; terms[0].items(), [(0, true), (1, true)].as_slice());
+    assert_eq!(rt; terms[31].items(), [(62, true), (63, true)].as_slice());
+    Ok(())
+}
+
+#[test]
+fn printed_errors(rt: HostRuntime) -> Result<(), Fail> {
+    let over = PrimeError::Over { most: 4096 };
+    let over = format!(in rt.alloc(); "{over}")?;
+    assert_eq!(rt; over.as_str(), "more than 4096 primes");
+    let memory = format!(in rt.alloc(); "{}", PrimeError::Memory)?;
+    assert_eq!(rt; memory.as_str(), "no memory");
     Ok(())
 }
