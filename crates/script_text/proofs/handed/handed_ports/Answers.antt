@@ -1,0 +1,9 @@
+use Rattle.script_text.proofs.Tables.{ports-more, ports-done}
+use Rattle.script_text.proofs.handed.handed_ports.Goals as goal
+
+pub loop-k-preserved : goal.loop-k-preserved
+loop-k-preserved c =
+    ports-more c.items-nets.result.now c.loop-k.k c.index-nets-k.result c.handed_port.result c.loop-k.ports.items c.keep.new.items.items _ c.loop-k-test.true c.index-nets-k.is c.handed_port.ensures c.in_ok-keep.ensures c.loop-k.invariant
+
+pub returns : goal.returns
+returns c = ports-done c.items-nets.result.now c.loop-k.k c.loop-k.ports.items _ c.loop-k-test.false c.loop-k.invariant

@@ -1,0 +1,16 @@
+//! Settled levels of a board in an order of evaluation, and its steps.
+#![tactic(auto)]
+
+mod config;
+mod edges;
+mod nets;
+mod runs;
+mod settling;
+mod values;
+
+pub use config::{Config, power_up, shows_into, step};
+pub use runs::{Shown, run};
+pub use settling::settle_into;
+
+#[cfg(test)]
+mod tests;
