@@ -12,12 +12,13 @@ use Rattle.mig_base.specs.declared.circuit.Literal.{Literal}
 use Rattle.mig_base.specs.declared.circuit.Circuit.{Circuit}
 use Rattle.mig_base.specs.declared.circuit.Gate.TheVariants.{Product}
 use Rattle.mig_base.specs.Structure.{variable_product}
-use Rattle.build.specs.NewChip.{OldBoard, NewChip, register_on, is_literal_of, first_of}
-use Rattle.build.specs.InputPins.{pin_reads}
-use Rattle.build.specs.NewFiles.{column_lit, lit_on, new_lit, same_lit, new_columns, new_product, new_enable, new_terms}
-use Rattle.build.specs.Needed.{listed_literals, is_empty}
+use Rattle.mig_base.specs.WellFormed.{same_lit}
+use Rattle.new_board.specs.NewChip.{OldBoard, NewChip, register_on, is_literal_of, first_of}
+use Rattle.new_board.specs.InputPins.{pin_reads}
+use Rattle.new_board.specs.NewFiles.{column_lit, lit_on, new_lit, new_columns, new_product, new_enable, new_terms}
+use Rattle.chip_pins.specs.Needed.{listed_literals, is_empty}
 use Rattle.build.specs.PinColumns.{pin_columns, lit_by, lit_among}
-use Rattle.build.proofs.CodeNeeded.{listed-any, filter-same}
+use Rattle.chip_pins.proofs.CodeNeeded.{listed-any, filter-same}
 
 by-column : (b : OldBoard) (chip : NewChip) (x : Literal) (pin : ℕ) (o : Option Literal) →
     lit_by (cond (is_some (register_on b.circuit chip pin)) (Reg pin) (Pin pin), o) x ≡ column_lit b chip x pin o

@@ -7,9 +7,9 @@ use Rattle.mig_base.specs.declared.nets.Net.{Net}
 use Rattle.mig_base.specs.declared.nets.ChipLine.{ChipLine}
 use Rattle.mig_base.specs.declared.cells.ChipCells.{ChipCells}
 use Rattle.mig_base.specs.Boards.{ChipUnit, is_port, places_from}
-use Rattle.build.specs.declared.types.FittedChip.{FittedChip}
-use Rattle.build.specs.NewFiles.{kept_numbers, stands_on}
-use Rattle.build.specs.OneForOne.{same_chips_from}
+use Rattle.new_board.specs.declared.types.FittedChip.{FittedChip}
+use Rattle.new_board.specs.NewFiles.{kept_numbers, stands_on}
+use Rattle.new_board.specs.OneForOne.{same_chips_from}
 
 places-split : {T : Type 0} (p : T → Bool) (i : ℕ) (xs : List T) → length (places_from p i xs) + length (places_from (λ x. not (p x)) i xs) ≡ length xs
 places-split p i [] = refl

@@ -1,10 +1,1 @@
-pub mod NewChip
-pub mod InputPins
-pub mod NewFiles
-pub mod OneForOne
-pub mod FirstForm
-pub mod RebuiltBoards
 pub mod PinColumns
-pub mod KeptBoard
-pub mod Needed
-pub mod SecondForm

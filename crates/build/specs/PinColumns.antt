@@ -5,8 +5,8 @@ use Rattle.mig_base.specs.declared.cells.Source.TheVariants.{Pin, Reg}
 use Rattle.mig_base.specs.declared.cells.Lit.{Lit}
 use Rattle.mig_base.specs.declared.circuit.Literal.{Literal}
 use Rattle.mig_base.specs.Structure.{same_bool}
-use Rattle.build.specs.NewChip.{OldBoard, NewChip, register_on, is_literal_of}
-use Rattle.build.specs.InputPins.{pin_reads}
+use Rattle.new_board.specs.NewChip.{OldBoard, NewChip, register_on, is_literal_of}
+use Rattle.new_board.specs.InputPins.{pin_reads}
 
 -- the columns of a pin: their source on the new chip, and what they read of the old board
 abbrev pub PinColumns : Type 0

@@ -1,13 +1,13 @@
 ghost use Rattle.std.specs.Prelude.{◌≡◌, map, IfOk, option_copied, option_and_then, slice_get, Some, if◌then◌else◌};
 ghost use Rattle.mig_base.specs.Structure.{variable_gate};
 ghost use Rattle.mig_base.specs.DeviceTables.{cell_pins as pins_of_cells, is_22 as is_22v10, enable_pin as pin_enabling};
-ghost use Rattle.build.specs.NewChip.{unit_on, first_register};
-ghost use Rattle.build.specs.NewFiles.{new_enable, new_row, new_comb, new_reg, new_cell, cell_driving, new_cells as cells_on, reset_gate, preset_gate};
+ghost use Rattle.new_board.specs.NewChip.{unit_on, first_register};
+ghost use Rattle.new_board.specs.NewFiles.{new_enable, new_row, new_comb, new_reg, new_cell, cell_driving, new_cells as cells_on, reset_gate, preset_gate};
 
 use crate::pin_columns::{Columns, has_no_literal};
-use crate::tables::cell_pins;
 use array_rows::{enable_pin, idle};
 use board::is_22;
+use chip_pins::cell_pins;
 use mig_base::{
     Cell, ChipCells, Driver, Enable, Form, Gate, Gives, Items, Literal, NoMemory, Register, Row,
 };

@@ -2,17 +2,13 @@ ghost use Rattle.std.specs.Prelude.{◌≡◌, ◌+◌, ◌-◌, ◌<◌, ◌≤
 ghost use Rattle.std.specs.List.{list_any, filter_map};
 ghost use Rattle.mig_base.specs.DeviceTables.{ordinary_pins as pins_ordinary};
 ghost use Rattle.mig_base.specs.Boards.{places_from, is_port as port_line};
-ghost use Rattle.build.specs.InputPins.{input_pins as pins_for_inputs};
-ghost use Rattle.build.specs.NewFiles.{wire_at as wire_on, new_wires as wires_on, fitted as fit_on, stands_on as stands, kept_numbers as numbers_kept, number_in as number_among, new_number as number_new, new_chip_line as chip_line_new, new_pins_from, new_net as net_new};
+ghost use Rattle.new_board.specs.InputPins.{input_pins as pins_for_inputs};
+ghost use Rattle.new_board.specs.NewFiles.{wire_at as wire_on, new_wires as wires_on, fitted as fit_on, stands_on as stands, kept_numbers as numbers_kept, number_in as number_among, new_number as number_new, new_chip_line as chip_line_new, new_pins_from, new_net as net_new};
 
-use crate::chip_nets::ChipNets;
-use crate::input_pins::{Taken, input_pins};
-use crate::old_board::Old;
 use crate::pin_columns::{Columns, pin_net};
-use crate::planned::PlannedChip;
-use crate::tables::ordinary_pins;
-use crate::types::{FittedChip, PinNet};
+use chip_pins::{ChipNets, Old, PlannedChip, Taken, input_pins, ordinary_pins};
 use mig_base::{ChipLine, Items, Net, NetLine, NoMemory, PinLine, Port};
+use new_board::{FittedChip, PinNet};
 use std::alloc::Global;
 
 /// The line of a pin that stands on this net, if it has one: its net is a constant or a named one.

@@ -2,18 +2,18 @@ ghost use Rattle.std.specs.Prelude.{◌≡◌, map, filter, IfOk};
 ghost use Rattle.std.specs.List.{list_any, filter_map};
 ghost use Rattle.mig_base.specs.DeviceTables.{pair_pins as pins_of_pairs};
 ghost use Rattle.mig_base.specs.Structure.{variable_product as product_over};
-ghost use Rattle.build.specs.NewChip.{is_registered_unit};
-ghost use Rattle.build.specs.InputPins.{input_pins as pins_for_inputs, pin_net as net_on};
-ghost use Rattle.build.specs.NewFiles.{new_columns, new_lit, same_lit as lit_same, same_source as source_same, new_product, new_terms};
-ghost use Rattle.build.specs.Needed.{listed_literals, is_empty};
+ghost use Rattle.mig_base.specs.WellFormed.{same_lit as lit_same, same_source as source_same};
+ghost use Rattle.new_board.specs.NewChip.{is_registered_unit};
+ghost use Rattle.new_board.specs.InputPins.{input_pins as pins_for_inputs, pin_net as net_on};
+ghost use Rattle.new_board.specs.NewFiles.{new_columns, new_lit, new_product, new_terms};
+ghost use Rattle.chip_pins.specs.Needed.{listed_literals, is_empty};
 ghost use Rattle.build.specs.PinColumns.{pin_columns as columns_on, lit_among};
 
-use crate::aliases::{is_variable, same_bool, same_read, variable_literal};
-use crate::chip_nets::{ChipNets, read_by};
-use crate::input_pins::{Taken, input_at};
-use crate::planned::unit_register;
-use crate::tables::even_reads_q;
 use array_rows::{columns, pair_pins};
+use chip_pins::{
+    ChipNets, Taken, even_reads_q, input_at, is_variable, read_by, same_bool, same_read,
+    unit_register, variable_literal,
+};
 use mig_base::{Circuit, Items, Lit, Literal, NoMemory, Product, Source};
 use std::alloc::Global;
 
@@ -180,7 +180,7 @@ fn first_lit(by_pin: &[PinColumns], lit: Literal) -> Option<Lit>
 fn same_lit(a: &Lit, b: &Lit) -> bool
     ensures { result ≡ lit_same a.now b.now }
 {
-    same_source(a.source, b.source) && same_bool(a.high, b.high)
+    same_source(a.source, b.source) && a.high == b.high
 }
 
 fn same_source(a: Source, b: Source) -> bool

@@ -1,16 +1,14 @@
 ghost use Rattle.std.specs.Prelude.{◌≡◌, ◌≤◌, map, length, IfOk};
 ghost use Rattle.mig_base.specs.Boards.{circuit as circuit_of};
-ghost use Rattle.build.specs.NewFiles.{fitted as fit_on, new_net as net_new};
-ghost use Rattle.build.specs.OneForOne.{old_board, same_chips as chips_same, one_for_one};
+ghost use Rattle.new_board.specs.NewFiles.{fitted as fit_on, new_net as net_new};
+ghost use Rattle.new_board.specs.OneForOne.{old_board, same_chips as chips_same, one_for_one};
 
-use crate::aliases::all_variables;
 use crate::new_wires::{fitted, new_net};
-use crate::old_board::Old;
 use crate::one_for_one::{place_lines, plan_chips, same_chips};
-use crate::planned::PlannedChip;
-use crate::types::{FittedChip, Rebuilt};
 use board::{NetNumbers, units_of};
+use chip_pins::{Old, PlannedChip, all_variables};
 use mig_base::{ChipCells, Circuit, Items, Net, NoMemory, Plan};
+use new_board::{FittedChip, Rebuilt};
 use std::alloc::Global;
 
 /// These new chips, fitted.

@@ -1,11 +1,12 @@
 //! Two boards of one chip, rebuilt.
 
-use crate::{FittedChip, Rebuilt, rebuild};
+use crate::rebuild;
 use board::circuit_of;
 use mig_base::{
     Cell, ChipCells, ChipLine, Enable, Form, Items, Kind, Lit, Mode, Name, Net, NetLine, NoMemory,
     PinLine, PlanLine, Port, Product, Pull, Row, Source,
 };
+use new_board::{FittedChip, Rebuilt};
 use std::alloc::Global;
 use std::test::Fail;
 

@@ -13,7 +13,7 @@ use Rattle.palmig_top.specs.declared.parts.Parts.{Parts}
 use Rattle.palmig_top.specs.Verdict.{◌>>=◌, chip_held, chips_held, wiring_held, parts_held, LoadsChips, LoadsBoard}
 use Rattle.palmig_top.specs.HeldBoard.{jed_file, net_file}
 use Rattle.palmig_top.specs.Steps.{StepGives, Gives, Fails, IsLoadFailure}
-use Rattle.palmig_top.specs.Reading.{IsReadChip, AreReadChips}
+use Rattle.taken_boards.specs.TakenBoards.{IsMade, AreMade}
 use Rattle.palmig_top.proofs.Chains.{fell-on, caused-later, second-step, first-failed, pure-step}
 
 -- what was made stands before what is still to come
@@ -130,7 +130,7 @@ chips-want view held now before later stem lines left made s = record { same = s
     at (Some h) = tt
 
 -- some fuses make one more chip
-pub read-more : (lines left : List ChipLine) (line : ChipLine) (made : List ChipCells) (cells : ChipCells) → AreReadChips lines made → IsReadChip line cells → AreReadChips (lines ++ line ∷ []) (made ++ cells ∷ [])
+pub read-more : (lines left : List ChipLine) (line : ChipLine) (made : List ChipCells) (cells : ChipCells) → AreMade lines made → IsMade line cells → AreMade (lines ++ line ∷ []) (made ++ cells ∷ [])
 read-more [] left line [] cells p q = (q, tt)
 read-more [] left line (c ∷ cs) cells p q = absurd p
 read-more (l ∷ ls) left line [] cells p q = absurd p

@@ -15,13 +15,13 @@ use Rattle.mig_base.proofs.BoardReadBack.{written-read}
 use Rattle.mig_base.proofs.WrittenLength.{written-short}
 use Rattle.mig_io.specs.Counts.{Counts}
 use Rattle.mig_io.specs.Holding.{Held}
-use Rattle.build.specs.declared.types.FittedChip.{FittedChip}
-use Rattle.build.specs.FirstForm.{FirstBoard, is_first_wiring, is_first_form}
-use Rattle.build.specs.OneForOne.{one_for_one}
-use Rattle.build.specs.NewFiles.{new_chip_line}
-use Rattle.build.specs.RebuiltBoards.{built_chips, built_cells, built_net, IsRebuilt, IsBuiltWell}
-use Rattle.build.proofs.FirstBoards.{first-rebuilt}
-use Rattle.build.proofs.BuiltWell.{built-well}
+use Rattle.new_board.specs.declared.types.FittedChip.{FittedChip}
+use Rattle.taken_boards.specs.TakenBoards.{AreMade, TakenBoard, is_taken_wiring, is_taken_form}
+use Rattle.new_board.specs.OneForOne.{one_for_one}
+use Rattle.new_board.specs.NewFiles.{new_chip_line}
+use Rattle.rebuilt_boards.specs.RebuiltBoards.{built_chips, built_cells, built_net, IsRebuilt, IsBuiltWell}
+use Rattle.rebuilt_boards.proofs.TakenBoards.{taken-rebuilt}
+use Rattle.rebuilt_boards.proofs.BuiltWell.{built-well}
 use Rattle.palmig_top.specs.declared.exit.Exit.{Exit}
 use Rattle.palmig_top.specs.declared.exit.Exit.TheVariants.{Done, Refused}
 use Rattle.palmig_top.specs.declared.exit.Refusal.TheVariants.{Later}
@@ -31,8 +31,8 @@ use Rattle.palmig_top.specs.HeldBoard.{HoldsBoard, HoldsChips, HoldsFile, net_fi
 use Rattle.palmig_top.specs.Verdict.{◌>>=◌, File, Outcome, command_or_refusal, judged, judged_migration, outcome_or_later, outcome_of, files_of, fuse_file, new_chips, new_wiring, loaded, wiring_of, or_later, wiring_held, chips_held, parts_held, only_if}
 use Rattle.palmig_top.specs.Answer.{Answers, LeavesFiles, placed_all}
 use Rattle.palmig_top.specs.Clauses.{Call, IsMigrated, Migrated}
-use Rattle.palmig_top.specs.Reading.{IsReadWiring, IsReadBoard, AreReadChips}
-use Rattle.palmig_top.proofs.HeldParts.{Went, went, only, told, holds-file, plain-text, chips-hold, chips-read, first-board, read-writable}
+use Rattle.palmig_top.specs.Reading.{IsReadWiring, IsReadBoard}
+use Rattle.palmig_top.proofs.HeldParts.{Went, went, only, told, holds-file, plain-text, chips-hold, chips-read, taken-board, read-writable}
 use Rattle.palmig_top.proofs.NewFilesHeld.{built-chips, apart-behind, last-placed}
 
 -- a board that was judged
@@ -42,7 +42,7 @@ pub record Judged (h : Held) (stem : List ℕ) (parts : Parts) : Type 0 where
   pub text : net_of_text bytes ≡ Ok parts.net
   pub wiring : IsReadWiring parts.net
   pub chips : HoldsChips h stem parts.net.chips parts.chips
-  pub read : AreReadChips parts.net.chips parts.chips
+  pub read : AreMade parts.net.chips parts.chips
 
 ok-same : {A : Type 0} (x y : A) → (let q : Result A Exit = Ok x in q) ≡ Ok y → x ≡ y
 ok-same x y p = cc
@@ -52,14 +52,14 @@ judged-parts h stem parts e =
     let a = went (wiring_held h stem) (λ net. chips_held h stem net.chips >>= λ chips. Ok (record { net = net; chips = chips })) parts e in
     let b = went (chips_held h stem a.at.chips) (λ chips. Ok (record { net = a.at; chips = chips })) parts a.then in
     let f = went (loaded h (net_file stem)) (λ bytes. wiring_of (net_file stem) bytes) a.at a.begun in
-    let p = went (or_later (net_file stem) _) (λ net. only_if (is_first_wiring net) net (Refused (Later (net_file stem)))) a.at f.then in
-    let o = only (is_first_wiring p.at) p.at a.at (Refused (Later (net_file stem))) p.then in
+    let p = went (or_later (net_file stem) _) (λ net. only_if (is_taken_wiring net) net (Refused (Later (net_file stem)))) a.at f.then in
+    let o = only (is_taken_wiring p.at) p.at a.at (Refused (Later (net_file stem))) p.then in
     let plain = told (net_file stem) _ p.at p.begun in
     subst (Judged h stem) (ok-same (record { net = a.at; chips = b.at }) parts b.then) (record {
       bytes = f.at;
       file = holds-file h (net_file stem) f.at f.begun;
       text = subst (λ (n : Net). net_of_text f.at ≡ Ok n) o.same (plain-text f.at p.at plain);
-      wiring = subst IsReadWiring o.same (record { bytes = f.at; plain = plain; first = o.passed });
+      wiring = subst IsReadWiring o.same (record { bytes = f.at; plain = plain; taken = o.passed });
       chips = chips-hold h stem a.at.chips b.at b.begun;
       read = chips-read h stem a.at.chips b.at b.begun;
     })
@@ -102,10 +102,10 @@ new-board h stem parts well rebuilt = record {
   accepted = rebuilt.new_accepted;
 }
 
-moved : (h : Held) (old new : List ℕ) (parts : Parts) → Judged h old parts → FirstBoard parts.net parts.chips → Migrated h (placed_all (files_of new parts) h) old new
-moved h old new parts j first =
-    let rebuilt = first-rebuilt parts.net parts.chips first in
-    let well = built-well parts.net parts.chips (read-writable parts.net j.wiring) first in
+moved : (h : Held) (old new : List ℕ) (parts : Parts) → Judged h old parts → TakenBoard parts.net parts.chips → Migrated h (placed_all (files_of new parts) h) old new
+moved h old new parts j taken =
+    let rebuilt = taken-rebuilt parts.net parts.chips taken in
+    let well = built-well parts.net parts.chips (read-writable parts.net j.wiring) taken in
     record {
       old_parts = parts;
       new_net = built_net parts.net parts.chips;
@@ -128,10 +128,10 @@ moved h old new parts j first =
 pub migrated : (c : Command) (h : Held) (outcome : Outcome) → judged_migration c h ≡ Ok outcome → Migrated h (placed_all outcome.saves h) c.old c.new
 migrated c h outcome e =
     let a = went (parts_held h c.old) (outcome_or_later c) outcome e in
-    let o = only (is_first_form a.at.net a.at.chips) (outcome_of c.new a.at) outcome (Refused (Later (net_file c.old))) a.then in
+    let o = only (is_taken_form a.at.net a.at.chips) (outcome_of c.new a.at) outcome (Refused (Later (net_file c.old))) a.then in
     let j = judged-parts h c.old a.at a.begun in
     subst (λ (q : Outcome). Migrated h (placed_all q.saves h) c.old c.new) o.same
-    (moved h c.old c.new a.at j (first-board a.at (record { wiring = j.wiring; chips = j.read }) o.passed))
+    (moved h c.old c.new a.at j (taken-board a.at (record { wiring = j.wiring; chips = j.read }) o.passed))
 
 command-judged : (words : List (List ℕ)) (c : Command) (h : Held) (outcome : Outcome) → command_or_refusal words ≡ Ok c → judged words h ≡ Ok outcome → judged_migration c h ≡ Ok outcome
 command-judged words c h outcome e j = sym (ap (λ (q : Result Command Exit). q >>= λ d. judged_migration d h) e) ∙ j

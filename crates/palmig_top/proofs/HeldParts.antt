@@ -24,15 +24,15 @@ use Rattle.mig_base.specs.BoardText.{net_of_text}
 use Rattle.mig_base.specs.WrittenBoard.{plain_net, plain_or_later, written_net, IsWritable}
 use Rattle.mig_base.proofs.BoardGiven.{given-writable}
 use Rattle.mig_io.specs.Holding.{Held}
-use Rattle.build.specs.FirstForm.{is_first_wiring, is_first_form, is_one_pal16l8, is_16l8, is_free, FirstBoard}
-use Rattle.build.proofs.FirstBoards.{writable-lines}
+use Rattle.taken_boards.specs.TakenBoards.{is_taken_form, AreMade, TakenBoard}
+use Rattle.rebuilt_boards.proofs.BoardForms.{writable-lines}
 use Rattle.palmig_top.specs.declared.exit.Exit.{Exit}
 use Rattle.palmig_top.specs.declared.exit.Exit.TheVariants.{Refused, Missing}
 use Rattle.palmig_top.specs.declared.exit.Refusal.TheVariants.{Later}
 use Rattle.palmig_top.specs.declared.parts.Parts.{Parts}
 use Rattle.palmig_top.specs.HeldBoard.{HoldsFile, HoldsChip, HoldsChips, net_file, jed_file}
 use Rattle.palmig_top.specs.Verdict.{◌>>=◌, only_if, or_later, within_at, loaded, wiring_of, wiring_held, chip_of, chip_held, chips_held, parts_held}
-use Rattle.palmig_top.specs.Reading.{IsReadWiring, IsReadChip, AreReadChips, IsReadBoard}
+use Rattle.palmig_top.specs.Reading.{IsReadWiring, IsReadBoard}
 
 -- both steps of a chain that went well
 pub record Went {A B : Type 0} (first : Result A Exit) (next : A → Result B Exit) (b : B) : Type 0 where
@@ -114,48 +114,29 @@ chips-hold h stem (line ∷ lines) chips e =
     ok-same : (x y : List ChipCells) → (let q : Result (List ChipCells) Exit = Ok x in q) ≡ Ok y → x ≡ y
     ok-same x y p = cc
 
--- a board that was read, and is of the first form
-
-and-parts : (a b : Bool) → (a && b) ≡ true → (a ≡ true) × (b ≡ true)
-and-parts true b e = (refl, e)
-and-parts false b e = cc
-
+-- a board that was read, and is of the form that is taken
 pub read-writable : (net : Net) → IsReadWiring net → IsWritable net
 read-writable net r = given-writable r.bytes net (plain-text r.bytes net r.plain)
 
-kind-16l8 : (k : Kind) → is_16l8 k ≡ true → k ≡ Pal16L8
-kind-16l8 Pal16L8 e = refl
-kind-16l8 _ e = cc
+pub taken-board : (parts : Parts) → IsReadBoard parts → is_taken_form parts.net parts.chips ≡ true → TakenBoard parts.net parts.chips
+taken-board parts r form =
+    let writable = read-writable parts.net r.wiring in
+    record {
+      wiring = r.wiring.taken;
+      names = writable.distinct_chips;
+      lines = writable-lines parts.net writable;
+      cells = r.chips;
+      form = form;
+    }
 
-first-of-lines : (net : Net) (lines : List ChipLine) (chips : List ChipCells) → is_one_pal16l8 lines ≡ true → AreReadChips lines chips →
-    is_first_wiring net ≡ true → list_all (λ l. nat_lt l.net (2 + length net.nets)) net.pins ≡ true → is_first_form net chips ≡ true → FirstBoard net chips
-first-of-lines net [] chips one read wiring lines form = cc
-first-of-lines net (line ∷ []) [] one read wiring lines form = absurd read
-first-of-lines net (line ∷ []) (cells ∷ []) one read wiring lines form = record {
-  wiring = wiring;
-  lines = lines;
-  bits = read.0.bits;
-  cells = cells;
-  cells_are = subst (λ (k : Kind). cells_of k read.0.bits ≡ Ok cells) (kind-16l8 line.kind one) read.0.made;
-  chips_are = refl;
-  form = form;
-}
-first-of-lines net (line ∷ []) (cells ∷ more ∷ chips) one read wiring lines form = absurd read.1
-first-of-lines net (line ∷ second ∷ rest) chips one read wiring lines form = cc
-
-pub first-board : (parts : Parts) → IsReadBoard parts → is_first_form parts.net parts.chips ≡ true → FirstBoard parts.net parts.chips
-first-board parts r form =
-    let both = and-parts (is_one_pal16l8 parts.net.chips) (list_all (λ l. is_free l.pull) parts.net.nets) r.wiring.first in
-    first-of-lines parts.net parts.net.chips parts.chips both.0 r.chips r.wiring.first (writable-lines parts.net (read-writable parts.net r.wiring)) form
-
-pub chips-read : (h : Held) (stem : List ℕ) (lines : List ChipLine) (chips : List ChipCells) → chips_held h stem lines ≡ Ok chips → AreReadChips lines chips
+pub chips-read : (h : Held) (stem : List ℕ) (lines : List ChipLine) (chips : List ChipCells) → chips_held h stem lines ≡ Ok chips → AreMade lines chips
 chips-read h stem lines chips e = from lines chips (chips-hold h stem lines chips e)
   where
-    from : (lines : List ChipLine) (chips : List ChipCells) → HoldsChips h stem lines chips → AreReadChips lines chips
+    from : (lines : List ChipLine) (chips : List ChipCells) → HoldsChips h stem lines chips → AreMade lines chips
     from [] [] p = tt
     from [] (c ∷ cs) p = p
     from (line ∷ lines) [] p = p
-    from (line ∷ lines) (c ∷ cs) p = (record { bits = p.0.bits; made = p.0.made }, from lines cs p.1)
+    from (line ∷ lines) (c ∷ cs) p = ((p.0.bits, p.0.made), from lines cs p.1)
 
 -- fuses that make no cells
 pub chip-refused : (name : List ℕ) (line : ChipLine) (bytes : List ℕ) (bits : List Bool) (e : ChipError) → plain_fuses bytes ≡ Ok bits → cells_of line.kind bits ≡ Err e →

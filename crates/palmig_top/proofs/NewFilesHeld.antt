@@ -21,8 +21,8 @@ use Rattle.mig_base.specs.FuseText.{fuses_of_text}
 use Rattle.mig_base.proofs.V8Laws.{v8-again}
 use Rattle.mig_base.proofs.WrittenKinds.{written-read, written-short}
 use Rattle.mig_io.specs.Holding.{Held, placed}
-use Rattle.build.specs.declared.types.FittedChip.{FittedChip}
-use Rattle.build.specs.NewFiles.{new_chip_line}
+use Rattle.new_board.specs.declared.types.FittedChip.{FittedChip}
+use Rattle.new_board.specs.NewFiles.{new_chip_line}
 use Rattle.palmig_top.specs.HeldBoard.{HoldsFile, HoldsChip, HoldsChips, net_file, plan_file, jed_file}
 use Rattle.palmig_top.specs.Verdict.{File, fuse_file}
 use Rattle.palmig_top.specs.Answer.{placed_all}

@@ -17,10 +17,10 @@ use Rattle.mig_base.specs.WrittenBoard.{written_net, IsWritable}
 use Rattle.mig_base.specs.WrittenPlan.{written_plan}
 use Rattle.mig_base.specs.WrittenCells.{v8_fuses}
 use Rattle.mig_base.specs.WrittenFuses.{written_fuses}
-use Rattle.build.specs.declared.types.FittedChip.{FittedChip}
-use Rattle.build.specs.OneForOne.{one_for_one}
-use Rattle.build.specs.FirstForm.{is_first_form, is_one_way, is_first_circuit}
-use Rattle.build.specs.RebuiltBoards.{IsBuiltWell, built_chips, built_net}
+use Rattle.new_board.specs.declared.types.FittedChip.{FittedChip}
+use Rattle.new_board.specs.OneForOne.{one_for_one}
+use Rattle.taken_boards.specs.TakenBoards.{AreMade, is_taken_form, are_taken_ports, is_taken_circuit}
+use Rattle.rebuilt_boards.specs.RebuiltBoards.{IsBuiltWell, built_chips, built_net}
 use Rattle.palmig_top.specs.declared.exit.Exit.{Exit}
 use Rattle.palmig_top.specs.declared.exit.Exit.TheVariants.{Refused, Memory}
 use Rattle.palmig_top.specs.declared.exit.Refusal.TheVariants.{Later}
@@ -30,11 +30,11 @@ use Rattle.palmig_top.specs.declared.prepare.Prepared.{Prepared}
 use Rattle.palmig_top.specs.HeldBoard.{net_file, plan_file, jed_file}
 use Rattle.palmig_top.specs.Verdict.{File, Outcome, fuse_file, files_of, new_chips, new_wiring, done_line, outcome_of, outcome_or_later, only_if}
 use Rattle.palmig_top.specs.Steps.{Says}
-use Rattle.palmig_top.specs.Reading.{IsReadBoard, AreReadChips}
+use Rattle.palmig_top.specs.Reading.{IsReadBoard}
 use Rattle.palmig_top.specs.Saving.{file_of}
 use Rattle.palmig_top.specs.Preparing.{outcome_in, IsWritableChip}
-use Rattle.build.proofs.BuiltWell.{built-well}
-use Rattle.palmig_top.proofs.HeldParts.{read-writable, first-board}
+use Rattle.rebuilt_boards.proofs.BuiltWell.{built-well}
+use Rattle.palmig_top.proofs.HeldParts.{read-writable, taken-board}
 
 -- the text of a chip's fuses
 pub fuse-text-made : {V E : Type 0} (items : V → List ℕ) (k : Kind) (bits : List Bool) (cells : ChipCells) (r : Result V E) → bits ≡ v8_fuses cells →
@@ -59,7 +59,7 @@ pub files-more : (stem : List ℕ) (front more : List FittedChip) (c : FittedChi
 files-more stem front more c old new e was now =
     now ∙ ap (λ (q : List File). q ++ fuse_file stem c ∷ []) was ∙ sym (files-append stem front c) ∙ ap (λ (q : List FittedChip). map (fuse_file stem) q) (sym e)
 
-as-many : (lines : List ChipLine) (chips : List ChipCells) → AreReadChips lines chips → length chips ≡ length lines
+as-many : (lines : List ChipLine) (chips : List ChipCells) → AreMade lines chips → length chips ≡ length lines
 as-many [] [] r = refl
 as-many [] (c ∷ cs) r = absurd r
 as-many (l ∷ ls) [] r = absurd r
@@ -69,21 +69,21 @@ as-many (l ∷ ls) (c ∷ cs) r = ap suc (as-many ls cs r.1)
 pub read-as-many : (parts : Parts) → IsReadBoard parts → length parts.chips ≡ length parts.net.chips
 read-as-many parts r = as-many parts.net.chips parts.chips r.chips
 
-built-of : (parts : Parts) → IsReadBoard parts → is_first_form parts.net parts.chips ≡ true → IsBuiltWell parts.net parts.chips
-built-of parts r form = built-well parts.net parts.chips (read-writable parts.net r.wiring) (first-board parts r form)
+built-of : (parts : Parts) → IsReadBoard parts → is_taken_form parts.net parts.chips ≡ true → IsBuiltWell parts.net parts.chips
+built-of parts r form = built-well parts.net parts.chips (read-writable parts.net r.wiring) (taken-board parts r form)
 
 writable-from : (fs : List FittedChip) → AllByRecursion (λ f. f.cells.kind ≡ Gal16V8) fs → AllByRecursion (λ f. IsWellFormed f.cells) fs → AllByRecursion IsWritableChip fs
 writable-from [] k w = tt
 writable-from (f ∷ fs) k w = (record { kind = ap is_v8 k.0; cells = w.0 }, writable-from fs k.1 w.1)
 
 -- the new chips' fuses can be written
-pub writable-chips : (parts : Parts) → IsReadBoard parts → is_first_form parts.net parts.chips ≡ true → (made : List FittedChip) → made ≡ new_chips parts → AllByRecursion IsWritableChip made
+pub writable-chips : (parts : Parts) → IsReadBoard parts → is_taken_form parts.net parts.chips ≡ true → (made : List FittedChip) → made ≡ new_chips parts → AllByRecursion IsWritableChip made
 writable-chips parts r form made e =
     let well = built-of parts r form in
     subst (λ (fs : List FittedChip). AllByRecursion IsWritableChip fs) (sym e) (writable-from (built_chips parts.net parts.chips) well.kinds well.cells)
 
 -- the new wiring has a text
-pub writable-wiring : (parts : Parts) → IsReadBoard parts → is_first_form parts.net parts.chips ≡ true → (made : Net) → made ≡ new_wiring parts → IsWritable made
+pub writable-wiring : (parts : Parts) → IsReadBoard parts → is_taken_form parts.net parts.chips ≡ true → (made : Net) → made ≡ new_wiring parts → IsWritable made
 writable-wiring parts r form made e = subst IsWritable (sym e) (built-of parts r form).wiring
 
 -- what is saved and reported is what should be
@@ -101,13 +101,13 @@ outcome-made stem parts chips plan net saves report lines counted c p n s r l d 
     ∙ ap (λ (q : List ChipLine). done_line (length q) (length counted)) l ∙ ap (λ (q : List FittedChip). done_line (length parts.net.chips) (length q)) (d ∙ c))
 
 -- a board of another form is left for later
-pub left-for-later : (c : Command) (parts : Parts) (test : Bool) (name : List ℕ) → test ≡ is_first_form parts.net parts.chips → test ≡ false → name ≡ net_file c.old →
+pub left-for-later : (c : Command) (parts : Parts) (test : Bool) (name : List ℕ) → test ≡ is_taken_form parts.net parts.chips → test ≡ false → name ≡ net_file c.old →
     outcome_or_later c parts ≡ Err (Refused (Later name))
 left-for-later c parts test name e f n =
     ap (λ (b : Bool). only_if b (outcome_of c.new parts) (Refused (Later (net_file c.old)))) (sym e ∙ f) ∙ ap (λ (q : List ℕ). Err (Refused (Later q))) (sym n)
 
 -- a board of the form is done, but for want of memory
-pub done-or-memory : (c : Command) (parts : Parts) (r : Result Prepared Exit) → is_first_form parts.net parts.chips ≡ true →
+pub done-or-memory : (c : Command) (parts : Parts) (r : Result Prepared Exit) → is_taken_form parts.net parts.chips ≡ true →
     MatchResult r (λ p. outcome_in p ≡ outcome_of c.new parts) (λ e. e ≡ Memory) → Says outcome_in (outcome_or_later c parts) r
 done-or-memory c parts (Ok p) form made = ap (λ (b : Bool). only_if b (outcome_of c.new parts) (Refused (Later (net_file c.old)))) form ∙ ap (λ (o : Outcome). Ok o) (sym made)
 done-or-memory c parts (Err e) form made = subst (λ (x : Exit). Says outcome_in (outcome_or_later c parts) (Err x)) (sym made) tt
@@ -117,9 +117,9 @@ pub made-circuit : (parts : Parts) (made : Circuit) (cells : List ChipCells) →
 made-circuit parts made cells e c = e ∙ ap (circuit_for parts.net) c
 
 -- the form that was tested is the board's
-pub form-of : (parts : Parts) (made : Circuit) (test : Bool) → made ≡ circuit_for parts.net parts.chips → test ≡ (list_all (λ l. is_one_way l.port) parts.net.nets && is_first_circuit made) →
-    test ≡ is_first_form parts.net parts.chips
-form-of parts made test e t = t ∙ ap (λ (q : Circuit). list_all (λ l. is_one_way l.port) parts.net.nets && is_first_circuit q) e
+pub form-of : (parts : Parts) (made : Circuit) (test : Bool) → made ≡ circuit_for parts.net parts.chips → test ≡ (are_taken_ports parts.net && is_taken_circuit made) →
+    test ≡ is_taken_form parts.net parts.chips
+form-of parts made test e t = t ∙ ap (λ (q : Circuit). are_taken_ports parts.net && is_taken_circuit q) e
 
 -- what was made of the cells as they were lent
 pub built-from : {T : Type 0} {made : T} {cells chips : List ChipCells} (build : List ChipCells → T) → cells ≡ chips → made ≡ build cells → made ≡ build chips

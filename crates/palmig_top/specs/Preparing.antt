@@ -2,7 +2,7 @@
 use Rattle.std.specs.Prelude.{ℕ, List, map, IsTrue}
 use Rattle.mig_base.specs.DeviceTables.{is_v8}
 use Rattle.mig_base.specs.WellFormed.{IsWellFormed}
-use Rattle.build.specs.declared.types.FittedChip.{FittedChip}
+use Rattle.new_board.specs.declared.types.FittedChip.{FittedChip}
 use Rattle.palmig_top.specs.declared.prepare.Prepared.{Prepared}
 use Rattle.palmig_top.specs.Verdict.{Outcome}
 use Rattle.palmig_top.specs.Saving.{file_of}

@@ -15,10 +15,10 @@ use Rattle.mig_base.specs.WrittenFuses.{written_fuses}
 use Rattle.mig_base.specs.WrittenPlan.{written_plan}
 use Rattle.mig_base.specs.WrittenCells.{v8_fuses}
 use Rattle.mig_io.specs.Holding.{Held, placed}
-use Rattle.build.specs.declared.types.FittedChip.{FittedChip}
-use Rattle.build.specs.NewFiles.{fitted, new_net}
-use Rattle.build.specs.OneForOne.{old_board, same_chips, one_for_one}
-use Rattle.build.specs.FirstForm.{is_first_wiring, is_first_form}
+use Rattle.new_board.specs.declared.types.FittedChip.{FittedChip}
+use Rattle.new_board.specs.NewFiles.{fitted, new_net}
+use Rattle.new_board.specs.OneForOne.{old_board, same_chips, one_for_one}
+use Rattle.taken_boards.specs.TakenBoards.{is_taken_wiring, is_taken_form}
 use Rattle.palmig_top.specs.declared.exit.Exit.{Exit}
 use Rattle.palmig_top.specs.declared.exit.Exit.TheVariants.{Done, Usage, Refused, Missing, ReadFault, SaveFault, OutFault, Memory}
 use Rattle.palmig_top.specs.declared.exit.Refusal.{Refusal}
@@ -69,9 +69,9 @@ within_at most too_long name (Some bytes) = only_if (nat_le (length bytes) most)
 abbrev pub loaded : Held → List ℕ → Result (List ℕ) Exit
 loaded held name = within_at most_file_bytes (Refused (Later name)) name (held name)
 
--- the wiring of one PAL16L8 that a text of the plain form says
+-- the wiring of PAL16 chips that a text of the plain form says
 abbrev pub wiring_of : List ℕ → List ℕ → Result Net Exit
-wiring_of name bytes = or_later name (plain_net bytes) >>= λ net. only_if (is_first_wiring net) net (Refused (Later name))
+wiring_of name bytes = or_later name (plain_net bytes) >>= λ net. only_if (is_taken_wiring net) net (Refused (Later name))
 
 -- the cells that a fuse text of the plain form makes
 abbrev pub chip_of : List ℕ → ChipLine → List ℕ → Result ChipCells Exit
@@ -141,7 +141,7 @@ outcome_of new parts = record { saves = files_of new parts; report = done_report
 
 -- what is done with a board of the form that is migrated so far
 abbrev pub outcome_or_later : Command → Parts → Result Outcome Exit
-outcome_or_later c parts = only_if (is_first_form parts.net parts.chips) (outcome_of c.new parts) (Refused (Later (net_file c.old)))
+outcome_or_later c parts = only_if (is_taken_form parts.net parts.chips) (outcome_of c.new parts) (Refused (Later (net_file c.old)))
 
 abbrev pub judged_migration : Command → Held → Result Outcome Exit
 judged_migration c held = parts_held held c.old >>= λ parts. outcome_or_later c parts

@@ -7,10 +7,10 @@ ghost use Rattle.mig_base.specs.Limits.{most_file_bytes};
 ghost use Rattle.palmig_top.specs.Verdict.{loaded, wiring_of, wiring_held, chip_of, chip_held, chips_held, parts_held, LoadsChips, LoadsBoard};
 ghost use Rattle.palmig_top.specs.HeldBoard.{net_file, jed_file};
 ghost use Rattle.palmig_top.specs.Steps.{StepGives, Says, exit_for_chip};
-ghost use Rattle.palmig_top.specs.Reading.{IsReadWiring, IsReadChip, AreReadChips, IsReadBoard};
+ghost use Rattle.taken_boards.specs.TakenBoards.{IsMade, AreMade};
+ghost use Rattle.palmig_top.specs.Reading.{IsReadWiring, IsReadBoard};
 
 use crate::{Exit, Parts, Refusal};
-use build::is_first_wiring;
 use jed_text::read_jed;
 use mig_base::{
     ChipCells, ChipError, ChipLine, FileName, Items, JedError, MOST_FILE_BYTES, Name, Net,
@@ -20,6 +20,7 @@ use mig_io::{Files, LoadError};
 use net_text::read_net;
 use pal16::cells;
 use std::alloc::Global;
+use taken_boards::is_taken_wiring;
 
 /// The name of a file of a board.
 pub fn named(
@@ -71,7 +72,7 @@ fn wiring_in(alloc: Global, file: Loaded) -> Result<Net, Exit>
 {
     match read_net(alloc, &file.bytes) {
         Ok(net) => {
-            if is_first_wiring(&net) {
+            if is_taken_wiring(&net) {
                 Ok(net)
             } else {
                 Err(Exit::Refused(Refusal::Later(file.name)))
@@ -98,7 +99,7 @@ fn chip_exit(name: FileName, error: ChipError) -> Exit
 fn chip_in(alloc: Global, file: Loaded, line: &ChipLine) -> Result<ChipCells, Exit>
     requires { IsTrue (is_pal16 line.now.kind) }
     ensures says { Says (λ cells. cells) (chip_of file.name line.now file.bytes.items) result }
-    ensures read { IfOk result (λ cells. IsReadChip line.now cells) }
+    ensures read { IfOk result (λ cells. IsMade line.now cells) }
 {
     let fuses = match read_jed(alloc, &file.bytes) {
         Ok(fuses) => fuses,
@@ -130,7 +131,7 @@ pub fn read_chip<F: Files>(
 ) -> Result<ChipCells, Exit>
     requires { IsTrue (is_pal16 line.now.kind) }
     ensures step { StepGives (λ cells. cells) (λ h. chip_held h old.now line.now) (λ h f. f ≡ jed_file old.now line.now.name) (F.held files.old) (F.held files.new) (F.counts files.old) (F.counts files.new) result }
-    ensures read { IfOk result (λ cells. IsReadChip line.now cells) }
+    ensures read { IfOk result (λ cells. IsMade line.now cells) }
 {
     let name = named(alloc, old, Some(&line.name), "jed")?;
     let file = load(alloc, files, name)?;
@@ -156,7 +157,7 @@ pub fn read_chips<F: Files>(
 ) -> Result<Vec<ChipCells>, Exit>
     requires { IsTrue (list_all (λ l. is_pal16 l.kind) lines.now) }
     ensures step { StepGives (λ v. v.items) (λ h. chips_held h old.now lines.now) (λ h f. LoadsChips h old.now lines.now f) (F.held files.old) (F.held files.new) (F.counts files.old) (F.counts files.new) result }
-    ensures read { IfOk result (λ v. AreReadChips lines.now v.items) }
+    ensures read { IfOk result (λ v. AreMade lines.now v.items) }
 {
     let mut chips = Vec::new(alloc);
     for line in lines {

@@ -5,7 +5,7 @@ ghost use Rattle.mig_base.specs.WrittenBoard.{written_net, IsWritable};
 ghost use Rattle.mig_base.specs.WrittenPlan.{written_plan};
 ghost use Rattle.mig_base.specs.WrittenFuses.{written_fuses};
 ghost use Rattle.mig_base.specs.WrittenCells.{v8_fuses};
-ghost use Rattle.build.specs.FirstForm.{is_first_form as is_first_form_board};
+ghost use Rattle.taken_boards.specs.TakenBoards.{is_taken_form as is_taken_form_board};
 ghost use Rattle.palmig_top.specs.HeldBoard.{net_file, plan_file};
 ghost use Rattle.palmig_top.specs.Verdict.{judged_migration, outcome_or_later, outcome_of, fuse_file as file_for_chip, done_line, LoadsBoard};
 ghost use Rattle.palmig_top.specs.Steps.{StepGives, Says};
@@ -16,13 +16,15 @@ ghost use Rattle.palmig_top.specs.Preparing.{outcome_in, IsWritableChip};
 use crate::loads::{named, read_parts};
 use crate::{Command, Exit, NewFile, Parts, Refusal};
 use board::circuit_of;
-use build::{FittedChip, Rebuilt, is_first_form, rebuild};
+use build::rebuild;
 use jed_write::jed_bytes;
 use mig_base::{Circuit, FileName, Items, NoMemory, Stem};
 use mig_io::Files;
 use net_text::write_net;
+use new_board::{FittedChip, Rebuilt};
 use plan_text::write_plan;
 use std::alloc::{AllocError, Global};
+use taken_boards::is_taken_form;
 use v8::fuses_of;
 
 /// What a command saves and reports where all goes well.
@@ -113,7 +115,7 @@ fn done_report(alloc: Global, old: usize, new: usize) -> Result<Vec<u8>, AllocEr
 /// The new board's files and the report.
 fn rebuilt(alloc: Global, new: &Stem, parts: &Parts, circuit: &Circuit) -> Result<Prepared, Exit>
     requires read { IsReadBoard parts.now }
-    requires form { is_first_form_board parts.now.net parts.now.chips ≡ true }
+    requires form { is_taken_form_board parts.now.net parts.now.chips ≡ true }
     requires circuit { circuit.now ≡ circuit_for parts.now.net parts.now.chips }
     ensures { MatchResult result (λ p. outcome_in p ≡ outcome_of new.now parts.now) (λ e. e ≡ Exit.Memory) }
 {
@@ -139,7 +141,7 @@ fn prepared_of(alloc: Global, command: &Command, parts: Parts) -> Result<Prepare
     let Ok(circuit) = circuit_of(alloc, &parts.net, parts.chips.items()) else {
         return Err(Exit::Memory);
     };
-    if !is_first_form(&parts.net, &circuit) {
+    if !is_taken_form(&parts.net, &circuit) {
         let name = named(alloc, &command.old, None, "net")?;
         return Err(Exit::Refused(Refusal::Later(name)));
     }

@@ -2,6 +2,10 @@
 #![tactic(auto)]
 
 #[cfg(test)]
+mod counter;
+#[cfg(test)]
+mod enabled_by_register;
+#[cfg(test)]
 mod faults;
 #[cfg(test)]
 mod migrating;
@@ -11,5 +15,7 @@ mod refusing;
 mod setting;
 #[cfg(test)]
 mod texts;
+#[cfg(test)]
+mod toggles;
 #[cfg(test)]
 mod wording;

@@ -1,7 +1,11 @@
-use crate::setting::{changed, files_of, firm, held, plain_files};
+use crate::setting::{
+    changed, changed_under, files_of, files_under, firm, held, none_held, plain_files,
+};
 use crate::texts::{BOARD, FUSES};
+use crate::{counter, toggles};
 use mig_io::MemSink;
 use palmig_top::{run, status};
+use std::alloc::Global;
 use std::test::Fail;
 
 const LATER_BOARD: &str = "refused later b1.net\n";
@@ -16,7 +20,7 @@ const NAMES_BOARD: bool = false;
 const NAMES_FUSES: bool = true;
 
 /// What is changed in the board's file, what in the fuse file, and whether the report names the fuse file.
-const CHANGED: [((&str, &str), (&str, &str), bool); 32] = [
+const CHANGED: [((&str, &str), (&str, &str), bool); 31] = [
     (("", ""), ("C07D7", "c07D7"), NAMES_FUSES),
     (("", ""), ("C07D7", "C07D8"), NAMES_FUSES),
     (("", ""), ("C07D7", "C07d7"), NAMES_FUSES),
@@ -45,12 +49,11 @@ const CHANGED: [((&str, &str), (&str, &str), bool); 32] = [
     ),
     (("PAL16L8", "PAL16R4"), ("", ""), NAMES_BOARD),
     (
-        ("PAL16L8", "PAL16L8\nchip U2 PAL16L8"),
+        ("PAL16L8", "PAL16L8\nchip U2 GAL16V8"),
         ("", ""),
         NAMES_BOARD,
     ),
     (("Y out", "Y io"), ("", ""), NAMES_BOARD),
-    (("Y out", "Y"), ("", ""), NAMES_BOARD),
     (("19 Y", "19 A"), ("", ""), NAMES_BOARD),
     (("19 Y", "19 GND"), ("", ""), NAMES_BOARD),
     (("3 B", "3 Y"), ("", ""), NAMES_BOARD),
@@ -87,8 +90,8 @@ fn changed_files_are_refused(rt: HostRuntime) -> Result<(), Fail> {
         } else {
             assert!(rt; out.sent() == LATER_BOARD.as_bytes(), "{}", of_board.1);
         }
-        for ending in ["jed", "plan", "net"] {
-            assert!(rt; held(alloc, &mut files, "x", ending)?.is_none(), "{ending}");
+        for rest in ["U1.jed", "plan", "net"] {
+            assert!(rt; held(alloc, &mut files, "x", rest)?.is_none(), "{rest}");
         }
     }
     Ok(())
@@ -144,6 +147,75 @@ fn an_overlong_file_is_refused(rt: HostRuntime) -> Result<(), Fail> {
         let mut out = MemSink::new(alloc, Vec::new(alloc));
         let exit = run(alloc, &["migrate", "b1", "x"], &mut files, &mut out);
         assert_eq!(rt; status(&exit), 4);
+        assert!(rt; out.sent() == report.as_bytes(), "{report}");
+    }
+    Ok(())
+}
+
+/// The files of a board, the file that is changed and then named, and what is changed in it.
+const LATER: [(&[(&str, &str)], &str, &str, &str); 16] = [
+    (&toggles::OLD, "net", "PAL16R4", "GAL16V8"),
+    (&toggles::OLD, "net", "PAL16R4", "PAL20R4"),
+    (&toggles::OLD, "net", "Q0 out", "Q0 io"),
+    (&toggles::OLD, "net", "17 Q0", "17 OE"),
+    (&toggles::OLD, "net", "17 Q0", "17 VCC"),
+    (&toggles::OLD, "net", "17 Q0", "17 Q1"),
+    (&toggles::OLD, "net", "CLK in", "CLK"),
+    (&toggles::OLD, "net", "CLK in", "CLK out"),
+    (&toggles::OLD, "net", "pin U1 1 CLK\n", ""),
+    (&toggles::OLD, "net", "1 CLK", "1 GND"),
+    (&toggles::OLD, "net", "11 OE", "11 Q0"),
+    (&counter::OLD, "net", "pin U2 1 CLK", "pin U2 1 RST"),
+    (&counter::OLD, "net", "pin U3 3 Q1", "pin U3 3 W"),
+    (&counter::OLD, "net", "pin U2 11 GND", "pin U2 11 Y"),
+    (&counter::OLD, "U2.jed", "L0512 0", "L512 0"),
+    (&counter::OLD, "U3.jed", "QF2048", "QF2049"),
+];
+
+/// The files that a board of three chips would get.
+const SAVED: [&str; 5] = ["U1.jed", "U2.jed", "U3.jed", "plan", "net"];
+
+/// Whether a board with a change in the named file is for later, by that file, and nothing is saved.
+fn is_for_later(
+    alloc: Global,
+    old: &[(&str, &str)],
+    named: &str,
+    part: &str,
+    other: &str,
+) -> Result<bool, Fail> {
+    let mut files = firm(alloc, changed_under(alloc, "b", old, named, part, other)?);
+    let mut out = MemSink::new(alloc, Vec::new(alloc));
+    let exit = run(alloc, &["migrate", "b", "x"], &mut files, &mut out);
+    let report = format!(in alloc; "refused later b.{named}\n")?;
+    if status(&exit) != 4 || out.sent() != report.as_bytes() {
+        return Ok(false);
+    }
+    none_held(alloc, &mut files, "x", &SAVED)
+}
+
+#[test]
+fn boards_of_other_forms_are_for_later(rt: HostRuntime) -> Result<(), Fail> {
+    let alloc = rt.alloc();
+    for (old, named, part, other) in LATER {
+        assert!(rt; is_for_later(alloc, old, named, part, other)?, "{other}");
+    }
+    Ok(())
+}
+
+/// Of a board of three chips, the first file that is not there is named.
+#[test]
+fn the_first_missing_file_is_named(rt: HostRuntime) -> Result<(), Fail> {
+    let alloc = rt.alloc();
+    for (left, report) in [
+        (3, "missing b.U3.jed\n"),
+        (2, "missing b.U2.jed\n"),
+        (1, "missing b.U1.jed\n"),
+        (0, "missing b.net\n"),
+    ] {
+        let mut files = firm(alloc, files_under(alloc, "b", &counter::OLD[..left])?);
+        let mut out = MemSink::new(alloc, Vec::new(alloc));
+        let exit = run(alloc, &["migrate", "b", "x"], &mut files, &mut out);
+        assert_eq!(rt; status(&exit), 6, "{report}");
         assert!(rt; out.sent() == report.as_bytes(), "{report}");
     }
     Ok(())

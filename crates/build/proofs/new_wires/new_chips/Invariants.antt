@@ -1,5 +1,5 @@
 use Rattle.std.proofs.Common.{◌≡◌, map, take}
-use Rattle.build.specs.NewFiles.{new_chip_line}
+use Rattle.new_board.specs.NewFiles.{new_chip_line}
 use Rattle.build.proofs.new_wires.new_chips.Given as goal
 
 abbrev pub invariant-loop-chip : goal.invariant-loop-chip

@@ -1,5 +1,5 @@
 use Rattle.std.proofs.Common.{◌≡◌, ◌++◌, drop}
-use Rattle.build.specs.NewFiles.{new_pins_from}
+use Rattle.new_board.specs.NewFiles.{new_pins_from}
 use Rattle.build.proofs.new_wires.new_pins.Given as goal
 
 abbrev pub invariant-loop-number : goal.invariant-loop-number

@@ -1,7 +1,7 @@
 use Rattle.std.proofs.Common.{◌≡◌, ◌++◌, drop}
 use Rattle.std.specs.List.{filter_map}
-use Rattle.build.specs.InputPins.{pin_net}
-use Rattle.build.specs.NewFiles.{wire_at}
+use Rattle.new_board.specs.InputPins.{pin_net}
+use Rattle.new_board.specs.NewFiles.{wire_at}
 use Rattle.build.proofs.new_wires.new_wires.Given as goal
 
 abbrev pub invariant-loop-pin : goal.invariant-loop-pin

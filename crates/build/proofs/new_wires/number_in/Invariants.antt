@@ -1,5 +1,5 @@
 use Rattle.std.proofs.Common.{◌≡◌, ◌+◌, drop}
-use Rattle.build.specs.NewFiles.{number_in}
+use Rattle.new_board.specs.NewFiles.{number_in}
 use Rattle.build.proofs.new_wires.number_in.Given as goal
 
 abbrev pub invariant-loop-place : goal.invariant-loop-place

@@ -2,7 +2,7 @@ use Rattle.std.proofs.Common.{◌≡◌, ◌+◌, ◌++◌, drop}
 use Rattle.std.specs.Prelude.{filter, not}
 use Rattle.std.specs.List.{list_any}
 use Rattle.mig_base.specs.Boards.{is_port, places_from}
-use Rattle.build.specs.NewFiles.{stands_on}
+use Rattle.new_board.specs.NewFiles.{stands_on}
 use Rattle.build.proofs.new_wires.push_inner.Given as goal
 
 abbrev pub invariant-loop-place : goal.invariant-loop-place

@@ -1,7 +1,7 @@
 use Rattle.std.proofs.Common.{◌≡◌, ◌++◌, map, drop}
 use Rattle.mig_base.specs.declared.nets.PinLine.{PinLine}
-use Rattle.build.specs.declared.types.PinNet.{PinNet}
-use Rattle.build.specs.NewFiles.{new_number}
+use Rattle.new_board.specs.declared.types.PinNet.{PinNet}
+use Rattle.new_board.specs.NewFiles.{new_number}
 use Rattle.build.proofs.new_wires.push_pins.Given as goal
 
 abbrev pub invariant-loop-wire : goal.invariant-loop-wire

@@ -1,5 +1,5 @@
 use Rattle.std.proofs.Common.{◌≡◌, map, take}
-use Rattle.build.specs.OneForOne.{place_line}
+use Rattle.new_board.specs.OneForOne.{place_line}
 use Rattle.build.proofs.one_for_one.place_lines.Given as goal
 
 abbrev pub invariant-loop-unit : goal.invariant-loop-unit

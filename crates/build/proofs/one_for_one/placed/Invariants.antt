@@ -1,5 +1,5 @@
 use Rattle.std.proofs.Common.{◌≡◌, ◌++◌, drop}
-use Rattle.build.specs.OneForOne.{placed_from}
+use Rattle.new_board.specs.OneForOne.{placed_from}
 use Rattle.build.proofs.one_for_one.placed.Given as goal
 
 abbrev pub invariant-loop-number : goal.invariant-loop-number

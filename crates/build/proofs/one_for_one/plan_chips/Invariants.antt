@@ -1,5 +1,5 @@
 use Rattle.std.proofs.Common.{◌≡◌, map, take}
-use Rattle.build.specs.OneForOne.{plan_chip}
+use Rattle.new_board.specs.OneForOne.{plan_chip}
 use Rattle.build.proofs.one_for_one.plan_chips.Given as goal
 
 abbrev pub invariant-loop-chip : goal.invariant-loop-chip

@@ -1,5 +1,5 @@
 use Rattle.std.proofs.Common.{◌≡◌, ◌++◌, drop}
-use Rattle.build.specs.OneForOne.{same_chips_from}
+use Rattle.new_board.specs.OneForOne.{same_chips_from}
 use Rattle.build.proofs.one_for_one.same_chips.Given as goal
 
 abbrev pub invariant-loop-number : goal.invariant-loop-number

@@ -1,5 +1,5 @@
 use Rattle.std.proofs.Common.{◌≡◌, drop}
-use Rattle.build.specs.Needed.{listed_literals}
+use Rattle.chip_pins.specs.Needed.{listed_literals}
 use Rattle.build.proofs.pin_columns.has_no_literal.Given as goal
 
 abbrev pub invariant-loop-lit : goal.invariant-loop-lit

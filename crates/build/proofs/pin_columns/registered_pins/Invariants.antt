@@ -1,6 +1,6 @@
 use Rattle.std.proofs.Common.{◌≡◌, ◌++◌, map, drop}
 use Rattle.std.specs.Prelude.{filter}
-use Rattle.build.specs.NewChip.{is_registered_unit}
+use Rattle.new_board.specs.NewChip.{is_registered_unit}
 use Rattle.build.proofs.pin_columns.registered_pins.Given as goal
 
 abbrev pub invariant-loop-pin : goal.invariant-loop-pin

@@ -1,7 +1,7 @@
 use Rattle.std.proofs.Common.{◌≡◌, ◌++◌, drop}
 use Rattle.std.specs.Prelude.{filter}
 use Rattle.std.specs.List.{list_any}
-use Rattle.build.specs.NewFiles.{same_lit}
+use Rattle.mig_base.specs.WellFormed.{same_lit}
 use Rattle.build.proofs.pin_columns.those_among.Given as goal
 
 abbrev pub invariant-loop-column : goal.invariant-loop-column

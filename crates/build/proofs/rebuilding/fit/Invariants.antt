@@ -1,5 +1,5 @@
 use Rattle.std.proofs.Common.{◌≡◌, map, take}
-use Rattle.build.specs.NewFiles.{fitted}
+use Rattle.new_board.specs.NewFiles.{fitted}
 use Rattle.build.proofs.rebuilding.fit.Given as goal
 
 abbrev pub invariant-loop-chip : goal.invariant-loop-chip

@@ -4,8 +4,8 @@ use Rattle.std.proofs.lemmas.Grind.{common_steps}
 use Rattle.std.proofs.lemmas.List.{length-map}
 use Rattle.mig_base.specs.Boards.{ChipUnit, units_from}
 use Rattle.board.proofs.UnitsWithin.{units-within}
-use Rattle.build.specs.NewFiles.{fitted, new_net}
-use Rattle.build.specs.OneForOne.{old_board, same_chips}
+use Rattle.new_board.specs.NewFiles.{fitted, new_net}
+use Rattle.new_board.specs.OneForOne.{old_board, same_chips}
 use Rattle.build.proofs.CodeWires.{chips-few}
 use Rattle.build.proofs.rebuilding.rebuild.Goals as goal
 

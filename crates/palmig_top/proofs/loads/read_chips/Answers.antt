@@ -3,7 +3,7 @@ use Rattle.std.proofs.lemmas.Result.{err_from_is_err_and}
 use Rattle.std.proofs.lemmas.List.{drop_more, take_more}
 use Rattle.mig_base.specs.declared.cells.ChipCells.{ChipCells}
 use Rattle.mig_base.specs.declared.nets.ChipLine.{ChipLine}
-use Rattle.palmig_top.specs.Reading.{AreReadChips}
+use Rattle.taken_boards.specs.TakenBoards.{AreMade}
 use Rattle.palmig_top.proofs.Chips.{ChipsSoFar, chips-step, chips-want, read-more}
 use Rattle.palmig_top.proofs.loads.read_chips.Goals as goal
 
@@ -34,6 +34,6 @@ loop-line-preserved g c =
     let read = read-more (take c.loop-line.line-index c.args.lines.now) (drop (c.loop-line.line-index + 1) c.args.lines.now) c.line-item.result c.loop-line.chips.items c.in_ok-cells.cells c.loop-line.invariant.1 c.in_ok-cells.ensures.read in (
       subst (λ (made : List ChipCells). ChipsSoFar (g.F.Files.held c.args.files.now) (g.F.Files.held c.read_chip.new.files) (g.F.Files.counts c.args.files.now) (g.F.Files.counts c.read_chip.new.files)
           c.args.old.now c.args.lines.now (drop (c.loop-line.line-index + 1) c.args.lines.now) made) (sym c.in_ok-add_chip.ensures) sofar,
-      subst (λ (ls : List ChipLine). AreReadChips ls c.add_chip.new.chips.items) (sym front)
-          (subst (λ (made : List ChipCells). AreReadChips (take c.loop-line.line-index c.args.lines.now ++ c.line-item.result ∷ []) made) (sym c.in_ok-add_chip.ensures) read),
+      subst (λ (ls : List ChipLine). AreMade ls c.add_chip.new.chips.items) (sym front)
+          (subst (λ (made : List ChipCells). AreMade (take c.loop-line.line-index c.args.lines.now ++ c.line-item.result ∷ []) made) (sym c.in_ok-add_chip.ensures) read),
     )

@@ -13,19 +13,19 @@ circuit_of-requires-clause-chips c = (read-writable c.args.parts.net c.requires.
 pub circuit_of-requires-clause-cells : goal.circuit_of-requires-clause-cells
 circuit_of-requires-clause-cells c = ap (λ (q : List ChipCells). length q) c.items.ensures ∙ read-as-many c.args.parts c.requires
 
-pub returns-then-not-is_first_form : goal.returns-then-not-is_first_form
-returns-then-not-is_first_form c = left-for-later c.args.command.now c.args.parts false c.in_ok-name.name
-    (form-of c.args.parts c.in-Ok.circuit false (made-circuit c.args.parts c.in-Ok.circuit c.items.result.now c.in-Ok.ensures c.items.ensures) c.if-not-is_first_form.ensures)
+pub returns-then-not-is_taken_form : goal.returns-then-not-is_taken_form
+returns-then-not-is_taken_form c = left-for-later c.args.command.now c.args.parts false c.in_ok-name.name
+    (form-of c.args.parts c.in-Ok.circuit false (made-circuit c.args.parts c.in-Ok.circuit c.items.result.now c.in-Ok.ensures c.items.ensures) c.if-not-is_taken_form.ensures)
     refl
     c.in_ok-name.ensures
 
 pub rebuilt-requires-clause-form : goal.rebuilt-requires-clause-form
-rebuilt-requires-clause-form c = sym (form-of c.args.parts c.in-Ok.circuit true (made-circuit c.args.parts c.in-Ok.circuit c.items.result.now c.in-Ok.ensures c.items.ensures) c.if-not-is_first_form.ensures)
+rebuilt-requires-clause-form c = sym (form-of c.args.parts c.in-Ok.circuit true (made-circuit c.args.parts c.in-Ok.circuit c.items.result.now c.in-Ok.ensures c.items.ensures) c.if-not-is_taken_form.ensures)
 
 pub rebuilt-requires-clause-circuit : goal.rebuilt-requires-clause-circuit
 rebuilt-requires-clause-circuit c = made-circuit c.args.parts c.in-Ok.circuit c.items.result.now c.in-Ok.ensures c.items.ensures
 
 pub returns : goal.returns
 returns c = done-or-memory c.args.command.now c.args.parts c.rebuilt.result
-    (sym (form-of c.args.parts c.in-Ok.circuit true (made-circuit c.args.parts c.in-Ok.circuit c.items.result.now c.in-Ok.ensures c.items.ensures) c.if-not-is_first_form.ensures))
+    (sym (form-of c.args.parts c.in-Ok.circuit true (made-circuit c.args.parts c.in-Ok.circuit c.items.result.now c.in-Ok.ensures c.items.ensures) c.if-not-is_taken_form.ensures))
     c.rebuilt.ensures

@@ -1,9 +1,9 @@
 use Rattle.std.proofs.Common.{ℕ, List, ◌≡◌, ◌∙◌, ap, sym, map, length}
 use Rattle.mig_base.specs.declared.cells.ChipCells.{ChipCells}
 use Rattle.mig_base.specs.Boards.{circuit as circuit_for}
-use Rattle.build.specs.declared.types.FittedChip.{FittedChip}
-use Rattle.build.specs.NewFiles.{fitted, new_net}
-use Rattle.build.specs.OneForOne.{old_board, same_chips, one_for_one}
+use Rattle.new_board.specs.declared.types.FittedChip.{FittedChip}
+use Rattle.new_board.specs.NewFiles.{fitted, new_net}
+use Rattle.new_board.specs.OneForOne.{old_board, same_chips, one_for_one}
 use Rattle.palmig_top.specs.declared.saves.NewFile.{NewFile}
 use Rattle.palmig_top.specs.Verdict.{done_line}
 use Rattle.palmig_top.specs.Saving.{file_of}

@@ -1,9 +1,9 @@
 use Rattle.std.proofs.Common.{◌≡◌, true, false, List, ap, ◌∙◌}
 use Rattle.mig_base.specs.declared.circuit.Literal.{Literal}
 use Rattle.mig_base.specs.Structure.{variable_product}
-use Rattle.build.specs.NewChip.{OldBoard}
-use Rattle.build.specs.NewFiles.{new_product}
-use Rattle.build.specs.Needed.{listed_literals, is_empty}
+use Rattle.new_board.specs.NewChip.{OldBoard}
+use Rattle.new_board.specs.NewFiles.{new_product}
+use Rattle.chip_pins.specs.Needed.{listed_literals, is_empty}
 use Rattle.build.proofs.CodeColumns.{enable-always, enable-term}
 use Rattle.build.proofs.pin_columns.Columns.enable.Goals as goal
 

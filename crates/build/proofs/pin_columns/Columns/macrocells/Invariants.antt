@@ -1,5 +1,5 @@
 use Rattle.std.proofs.Common.{◌≡◌, map, take}
-use Rattle.build.specs.NewFiles.{new_cell}
+use Rattle.new_board.specs.NewFiles.{new_cell}
 use Rattle.build.proofs.pin_columns.Columns.macrocells.Given as goal
 
 abbrev pub invariant-loop-pin : goal.invariant-loop-pin

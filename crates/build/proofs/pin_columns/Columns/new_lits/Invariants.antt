@@ -1,7 +1,7 @@
 use Rattle.std.proofs.Common.{◌≡◌, ◌++◌, drop}
 use Rattle.std.specs.List.{filter_map}
-use Rattle.build.specs.NewFiles.{new_lit}
-use Rattle.build.specs.Needed.{listed_literals}
+use Rattle.new_board.specs.NewFiles.{new_lit}
+use Rattle.chip_pins.specs.Needed.{listed_literals}
 use Rattle.build.proofs.pin_columns.Columns.new_lits.Given as goal
 
 abbrev pub invariant-loop-lit : goal.invariant-loop-lit

@@ -1,5 +1,5 @@
 use Rattle.std.proofs.Common.{◌≡◌, ◌∙◌, rules}
-use Rattle.build.specs.NewFiles.{new_columns}
+use Rattle.new_board.specs.NewFiles.{new_columns}
 use Rattle.build.proofs.CodeColumns.{product-steps}
 use Rattle.build.proofs.pin_columns.Columns.product.Goals as goal
 

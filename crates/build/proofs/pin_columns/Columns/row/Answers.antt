@@ -3,7 +3,7 @@ use Rattle.mig_base.specs.declared.cells.Lit.{Lit}
 use Rattle.mig_base.specs.declared.cells.Row.TheVariants as row
 use Rattle.mig_base.specs.declared.circuit.Literal.{Literal}
 use Rattle.mig_base.specs.Structure.{variable_product}
-use Rattle.build.specs.NewFiles.{new_product}
+use Rattle.new_board.specs.NewFiles.{new_product}
 use Rattle.build.proofs.pin_columns.Columns.row.Goals as goal
 
 pub returns-in_ok-product-in-Product : goal.returns-in_ok-product-in-Product

@@ -1,7 +1,7 @@
 use Rattle.std.proofs.Common.{List, ap, ◌∙◌}
 use Rattle.mig_base.specs.declared.circuit.Literal.{Literal}
 use Rattle.mig_base.specs.Structure.{variable_product}
-use Rattle.build.specs.NewFiles.{new_product}
+use Rattle.new_board.specs.NewFiles.{new_product}
 use Rattle.build.proofs.CodeColumns.{terms-push}
 use Rattle.build.proofs.pin_columns.Columns.terms.Goals as goal
 

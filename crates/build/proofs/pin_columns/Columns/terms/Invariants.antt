@@ -1,5 +1,5 @@
 use Rattle.std.proofs.Common.{◌≡◌, take}
-use Rattle.build.specs.NewFiles.{new_terms}
+use Rattle.new_board.specs.NewFiles.{new_terms}
 use Rattle.build.proofs.pin_columns.Columns.terms.Given as goal
 
 abbrev pub invariant-loop-term : goal.invariant-loop-term

@@ -1,6 +1,0 @@
-use Rattle.build.specs.FirstForm.{is_undriven}
-use Rattle.build.proofs.CodeLists.{all-product_reads}
-use Rattle.build.proofs.first_form.is_enable_undriven.Goals as goal
-
-pub returns-in-Product : goal.returns-in-Product
-returns-in-Product c = let e = all-product_reads (is_undriven c.args.circuit.now) c.in-Product.lits in rw c.in-Product.is (cc e)

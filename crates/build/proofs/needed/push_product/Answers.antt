@@ -1,5 +1,0 @@
-use Rattle.build.proofs.CodeNeeded.{adds-product}
-use Rattle.build.proofs.needed.push_product.Goals as goal
-
-pub returns : goal.returns
-returns c = adds-product c.args.circuit.now c.args.lits.now _ _ c.in_ok-push_sources.ensures

@@ -1,6 +1,0 @@
-use Rattle.std.proofs.Common.{take}
-use Rattle.build.specs.Needed.{AddsSources, sources}
-use Rattle.build.proofs.needed.push_sources.Given as goal
-
-abbrev pub invariant-loop-lit : goal.invariant-loop-lit
-invariant-loop-lit l = AddsSources l.fn.reads.items l.reads.items (sources l.circuit (take l.lit-index l.lits))

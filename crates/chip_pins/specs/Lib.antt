@@ -1,0 +1,2 @@
+pub mod KeptBoard
+pub mod Needed

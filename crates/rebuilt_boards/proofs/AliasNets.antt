@@ -1,0 +1,142 @@
+-- At settled levels each alias net has the level of its register or the complement, and no register shows Z.
+use Rattle.std.proofs.Common.{ℕ, zero, suc, ◌≡◌, Bool, true, false, not, cond, List, [], ◌∷◌, map, Option, Some, None, refl, sym, ap, ◌∙◌, subst}
+use Rattle.std.specs.List.{slice_get}
+use Rattle.std.proofs.lemmas.Option.{same_Some}
+use Rattle.mig_base.specs.declared.levels.Level.{Level}
+use Rattle.mig_base.specs.declared.levels.Level.TheVariants.{Zero, One, Z, X}
+use Rattle.mig_base.specs.declared.nets.Pull.{Pull}
+use Rattle.mig_base.specs.declared.circuit.Read.TheVariants.{OfNet, OfRegister}
+use Rattle.mig_base.specs.declared.circuit.Gate.{Gate}
+use Rattle.mig_base.specs.declared.circuit.Gate.TheVariants.{Never, Product}
+use Rattle.mig_base.specs.declared.circuit.Gives.{Gives}
+use Rattle.mig_base.specs.declared.circuit.Gives.TheVariants.{Sum, Visible}
+use Rattle.mig_base.specs.declared.circuit.Driver.{Driver}
+use Rattle.mig_base.specs.declared.circuit.Register.{Register}
+use Rattle.mig_base.specs.declared.circuit.NetKind.{NetKind}
+use Rattle.mig_base.specs.declared.circuit.NetKind.TheVariants.{Ground, Power, Handed, Shared, Inner}
+use Rattle.mig_base.specs.declared.circuit.Wire.{Wire}
+use Rattle.mig_base.specs.declared.circuit.Circuit.{Circuit}
+use Rattle.mig_base.specs.declared.circuit.Levels.{Levels}
+use Rattle.mig_base.specs.Levels.{read_level, not3, and3, level_at, or_x}
+use Rattle.mig_base.specs.Resolve.{resolved}
+use Rattle.mig_base.specs.Values.{source_level, literal_value, inverted, row_value}
+use Rattle.mig_base.specs.Accepted.{is_fixed}
+use Rattle.mig_base.specs.Structure.{is_shared, alias_by, alias_unit, alias_only, alias_wire, alias_of}
+use Rattle.settle.specs.Settled.{IsSettled, gives_level, gated, drive_level, wire_level, level_by, visible_levels}
+use Rattle.settle.proofs.Unique.{level_at-map}
+use Rattle.new_board.proofs.Variables.{AliasesFit}
+
+-- no Input port and no constant net has a driver
+abbrev pub FixedFit : Circuit → Type 0
+FixedFit c = (n : ℕ) (w : Wire) → slice_get c.nets n ≡ Some w → is_fixed w.kind ≡ true → w.drivers ≡ []
+
+and-driven : (a b : Level) → not3 (not3 (and3 a b)) ≡ and3 a b
+and-driven Zero b = refl
+and-driven One Zero = refl
+and-driven One One = refl
+and-driven One Z = refl
+and-driven One X = refl
+and-driven Z Zero = refl
+and-driven Z One = refl
+and-driven Z Z = refl
+and-driven Z X = refl
+and-driven X Zero = refl
+and-driven X One = refl
+and-driven X Z = refl
+and-driven X X = refl
+
+visible-driven : (l : Levels) (rs : List Register) (ss : List Level) (k : ℕ) → not3 (not3 (level_at (visible_levels l rs ss) k)) ≡ level_at (visible_levels l rs ss) k
+visible-driven l [] ss k = refl
+visible-driven l (r ∷ rs) [] k = refl
+visible-driven l (r ∷ rs) (s ∷ ss) zero = and-driven s (not3 (row_value l r.reset))
+visible-driven l (r ∷ rs) (s ∷ ss) (suc k) = visible-driven l rs ss k
+
+alias-level : (low : Bool) (pull : Pull) (v : Level) → not3 (not3 v) ≡ v → read_level (resolved pull (inverted low v ∷ [])) ≡ cond (not low) v (not3 v)
+alias-level true pull Zero e = refl
+alias-level true pull One e = refl
+alias-level true pull X e = refl
+alias-level true pull Z e = cc
+alias-level false pull Zero e = refl
+alias-level false pull One e = refl
+alias-level false pull X e = refl
+alias-level false pull Z e = cc
+
+-- the driver of an alias net
+pub record IsAliasDriver (d : Driver) (a : ℕ × Bool) : Type 0 where
+  pub enable : d.enable ≡ Product []
+  pub gives : d.gives ≡ Visible a.0
+  pub level : a.1 ≡ not d.low
+
+alias-driver : (d : Driver) (a : ℕ × Bool) → alias_by d.enable d.gives d.low ≡ Some a → IsAliasDriver d a
+alias-driver d a e = at d.enable d.gives refl refl e
+  where
+    at : (g : Gate) (v : Gives) → d.enable ≡ g → d.gives ≡ v → alias_by g v d.low ≡ Some a → IsAliasDriver d a
+    at Never v eg ev e = cc
+    at (Product []) (Sum terms) eg ev e = cc
+    at (Product []) (Visible k) eg ev e =
+        let same : (k, not d.low) ≡ a = same_Some (k, not d.low) a e in
+        record { enable = eg; gives = ev ∙ ap (λ (q : ℕ × Bool). Visible q.0) same; level = sym (ap (λ (q : ℕ × Bool). q.1) same) }
+    at (Product (x ∷ xs)) v eg ev e = cc
+
+-- an alias net: it is not shared, and has one driver
+pub record IsAlias (c : Circuit) (n : ℕ) (a : ℕ × Bool) : Type 0 where
+  pub wire : Wire
+  pub unit : ℕ
+  pub driver : Driver
+  pub found : slice_get c.nets n ≡ Some wire
+  pub private : is_shared wire.kind ≡ false
+  pub only : wire.drivers ≡ unit ∷ []
+  pub unit_is : slice_get c.units unit ≡ Some driver
+  pub alias : IsAliasDriver driver a
+
+pub alias-is : (c : Circuit) (n : ℕ) (a : ℕ × Bool) → alias_of c n ≡ Some a → IsAlias c n a
+alias-is c n a e = at (slice_get c.nets n) refl e
+  where
+    unit : (w : Wire) (u : ℕ) → slice_get c.nets n ≡ Some w → is_shared w.kind ≡ false → w.drivers ≡ u ∷ [] → (o : Option Driver) → slice_get c.units u ≡ o → alias_unit o ≡ Some a → IsAlias c n a
+    unit w u is no_share only None eu e = cc
+    unit w u is no_share only (Some d) eu e = record { wire = w; unit = u; driver = d; found = is; private = no_share; only = only; unit_is = eu; alias = alias-driver d a e }
+
+    drivers : (w : Wire) → slice_get c.nets n ≡ Some w → is_shared w.kind ≡ false → (ds : List ℕ) → w.drivers ≡ ds → alias_only c ds ≡ Some a → IsAlias c n a
+    drivers w is no_share [] only e = cc
+    drivers w is no_share (u ∷ []) only e = unit w u is no_share only (slice_get c.units u) refl e
+    drivers w is no_share (u ∷ v ∷ ds) only e = cc
+
+    by : (w : Wire) → slice_get c.nets n ≡ Some w → (q : Bool) → is_shared w.kind ≡ q → cond q None (alias_only c w.drivers) ≡ Some a → IsAlias c n a
+    by w is true share e = cc
+    by w is false share e = drivers w is share w.drivers refl e
+
+    at : (o : Option Wire) → slice_get c.nets n ≡ o → alias_wire c o ≡ Some a → IsAlias c n a
+    at None is e = cc
+    at (Some w) is e = by w is (is_shared w.kind) refl e
+
+pub aliases-fit : (c : Circuit) (stored inputs : List Level) (l : Levels) → FixedFit c → IsSettled c stored inputs l → AliasesFit c l
+aliases-fit c stored inputs l fixed sl = record { level = level; driven = driven }
+  where
+    driven_at : (k : ℕ) → not3 (not3 (level_at l.visible k)) ≡ level_at l.visible k
+    driven_at k = subst (λ (vs : List Level). not3 (not3 (level_at vs k)) ≡ level_at vs k) (sym sl.visible) (visible-driven l c.registers stored k)
+
+    driven : (k : ℕ) → not3 (not3 (level_at l.visible k)) ≡ level_at l.visible k
+    driven k = driven_at k
+
+    inner : (k : NetKind) → is_shared k ≡ false → (is_fixed k ≡ true → ⊥) → k ≡ Inner
+    inner Ground s f = absurd (f refl)
+    inner Power s f = absurd (f refl)
+    inner (Handed j) s f = absurd (f refl)
+    inner (Shared j) s f = cc
+    inner Inner s f = refl
+
+    level : (n : ℕ) (a : ℕ × Bool) → alias_of c n ≡ Some a → source_level l (OfNet n) ≡ literal_value l (record { source = OfRegister a.0; high = a.1 })
+    level n a e =
+        let i = alias-is c n a e in
+        let kind : i.wire.kind ≡ Inner = inner i.wire.kind i.private (λ f. let none : i.unit ∷ [] ≡ [] = sym i.only ∙ fixed n i.wire i.found f in cc) in
+        let drive : level_at l.drives i.unit ≡ inverted i.driver.low (level_at l.visible a.0) =
+        ap (λ (ds : List Level). level_at ds i.unit) sl.drives ∙ level_at-map (drive_level l) c.units i.unit ∙ ap (or_x (drive_level l)) i.unit_is
+        ∙ ap (λ (g : Gate). gated (row_value l g) (inverted i.driver.low (gives_level l i.driver.gives))) i.alias.enable
+        ∙ ap (λ (g : Gives). inverted i.driver.low (gives_level l g)) i.alias.gives in
+        ap (λ (ns : List Level). read_level (level_at ns n)) sl.nets
+        ∙ ap read_level (level_at-map (wire_level inputs l) c.nets n ∙ ap (or_x (wire_level inputs l)) i.found
+        ∙ ap (λ (k : NetKind). level_by inputs k i.wire.pull (map (level_at l.drives) i.wire.drivers)) kind
+        ∙ ap (λ (ds : List ℕ). resolved i.wire.pull (map (level_at l.drives) ds)) i.only
+        ∙ ap (λ (x : Level). resolved i.wire.pull (x ∷ [])) drive)
+        ∙ alias-level i.driver.low i.wire.pull (level_at l.visible a.0) (driven_at a.0)
+        ∙ ap (λ (q : Bool). cond q (level_at l.visible a.0) (not3 (level_at l.visible a.0))) (sym i.alias.level)
