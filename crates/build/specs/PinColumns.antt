@@ -4,7 +4,7 @@ use Rattle.mig_base.specs.declared.cells.Source.{Source}
 use Rattle.mig_base.specs.declared.cells.Source.TheVariants.{Pin, Reg}
 use Rattle.mig_base.specs.declared.cells.Lit.{Lit}
 use Rattle.mig_base.specs.declared.circuit.Literal.{Literal}
-use Rattle.mig_base.specs.Structure.{same_bool}
+use Rattle.mig_base.specs.Bools.{same_bool}
 use Rattle.new_board.specs.NewChip.{OldBoard, NewChip, register_on, is_literal_of}
 use Rattle.new_board.specs.InputPins.{pin_reads}
 

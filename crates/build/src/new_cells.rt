@@ -6,8 +6,8 @@ ghost use Rattle.new_board.specs.NewFiles.{new_enable, new_row, new_comb, new_re
 
 use crate::pin_columns::{Columns, has_no_literal};
 use array_rows::{enable_pin, idle};
-use board::is_22;
 use chip_pins::cell_pins;
+use equations::is_22;
 use mig_base::{
     Cell, ChipCells, Driver, Enable, Form, Gate, Gives, Items, Literal, NoMemory, Register, Row,
 };

@@ -3,8 +3,8 @@ ghost use Rattle.std.specs.List.{All};
 ghost use Rattle.mig_base.specs.Boards.{ChipUnit};
 ghost use Rattle.new_board.specs.OneForOne.{gal_kind as kind_of_gal, gal_mode as mode_of_gal, placed_from, same_chips_from, place_line as line_placing, plan_chip as chip_planned};
 
-use board::BoardUnit;
 use chip_pins::PlannedChip;
+use equations::BoardUnit;
 use mig_base::{
     ChipCells, ChipLine, Items, Kind, Mode, Net, NoMemory, PinName, PlanChip, PlanLine,
 };

@@ -5,8 +5,8 @@ ghost use Rattle.new_board.specs.OneForOne.{old_board, same_chips as chips_same,
 
 use crate::new_wires::{fitted, new_net};
 use crate::one_for_one::{place_lines, plan_chips, same_chips};
-use board::{NetNumbers, units_of};
 use chip_pins::{Old, PlannedChip, all_variables};
+use equations::{NetNumbers, units_of};
 use mig_base::{ChipCells, Circuit, Items, Net, NoMemory, Plan};
 use new_board::{FittedChip, Rebuilt};
 use std::alloc::Global;

@@ -1,7 +1,7 @@
 //! Two boards of one chip, rebuilt.
 
 use crate::rebuild;
-use board::circuit_of;
+use equations::circuit_of;
 use mig_base::{
     Cell, ChipCells, ChipLine, Enable, Form, Items, Kind, Lit, Mode, Name, Net, NetLine, NoMemory,
     PinLine, PlanLine, Port, Product, Pull, Row, Source,

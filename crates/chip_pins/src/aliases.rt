@@ -1,7 +1,8 @@
 ghost use Rattle.std.specs.Prelude.{◌≡◌, ◌++◌, ◌∷◌, [], map, filter, IfOk, OnOk, Some};
 ghost use Rattle.mig_base.specs.First.{made_from};
 ghost use Rattle.std.specs.List.{list_any, flat_map};
-ghost use Rattle.mig_base.specs.Structure.{same_read as read_same, same_bool as bool_same, same_literal as literal_same, alias_unit as unit_alias, alias_of as net_alias, variable_literal as literal_over, variable_of as variable_net, all_variables as variables_all, variable_product as product_over};
+ghost use Rattle.mig_base.specs.Bools.{same_bool as bool_same};
+ghost use Rattle.mig_base.specs.Structure.{same_read as read_same, same_literal as literal_same, alias_unit as unit_alias, alias_of as net_alias, variable_literal as literal_over, variable_of as variable_net, all_variables as variables_all, variable_product as product_over};
 ghost use Rattle.chip_pins.specs.Needed.{is_variable as variable_in};
 
 use mig_base::{Circuit, Driver, Gate, Gives, Literal, NetKind, NoMemory, Read};

@@ -7,7 +7,7 @@ ghost use Rattle.chip_pins.specs.Needed.{are_read, AddsProducts, AddsSources, so
 use crate::aliases::{is_variable, same_read, variable_literal};
 use crate::old_board::Old;
 use crate::planned::PlannedChip;
-use board::is_22;
+use equations::is_22;
 use mig_base::{Circuit, Driver, Gate, Gives, Items, Literal, NoMemory, Read, Register};
 use std::alloc::Global;
 

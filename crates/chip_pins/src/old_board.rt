@@ -4,7 +4,7 @@ ghost use Rattle.new_board.specs.NewChip.{unit_net, alias_net, is_register_of, n
 ghost use Rattle.new_board.specs.InputPins.{wire_for, has_no_driver, chip_from, stood_on};
 
 use crate::aliases::{alias_of, same_bool, same_read, variable_literal, variable_of};
-use board::{BoardUnit, NetNumbers};
+use equations::{BoardUnit, NetNumbers};
 use mig_base::{Circuit, Kind, Literal, Name, Net, Read, pins};
 use std::marker::Model;
 

@@ -15,14 +15,13 @@ use Rattle.mig_base.specs.declared.nets.PinLine.{PinLine}
 use Rattle.mig_base.specs.declared.nets.Port.{Port}
 use Rattle.mig_base.specs.declared.nets.Port.TheVariants.{Inner}
 use Rattle.mig_base.specs.declared.nets.NetError.{NetError}
-use Rattle.mig_base.specs.declared.nets.NetError.TheVariants.{Later}
 use Rattle.mig_base.specs.declared.nets.Pull.{Pull}
 use Rattle.mig_base.specs.DeviceTables.{ordinary_pins}
 use Rattle.mig_base.specs.Names.{is_name}
 use Rattle.mig_base.specs.First.{or_else, first_refusal, unless}
 use Rattle.mig_base.specs.Lines.{TextLine, text_lines, number_of}
 use Rattle.mig_base.specs.BoardText.{Says, Head, NetOf, ChipOf, PinOf, PullOf, End, Wrong, or_wrong, says, after_net, after_chip, after_pin, after_pull, after_board, after_end, port_named, pull_named, said_line, said_lines, all_said, line_refusal, nets_in, net_names, names_of_nets, chips_in, place_named, has_pin, net_on, net_at, is_input_port, pull_in, with_pull, pins_of_chip, pins_in, net_in, net_of_text}
-use Rattle.mig_base.specs.WrittenBoard.{are_distinct, is_part, is_pulled, Place, same_place, place_of, board_places, written_net, plain_or_later, plain_net, IsWritable}
+use Rattle.mig_base.specs.WrittenBoard.{are_distinct, is_part, is_pulled, Place, same_place, place_of, board_places, written_net, IsWritable}
 use Rattle.mig_base.proofs.Distinct.{places-equal, same-refl, part-more}
 use Rattle.mig_base.proofs.BoardKept.{Keeps, lines-keep}
 
@@ -256,15 +255,3 @@ given-writable bytes net h = at (first_refusal line_refusal [] (said_lines bytes
     at None a None b = let same : net_in (all_said (said_lines bytes)) ≡ net = cc in subst IsWritable same (accepted-writable bytes a)
     at None a (Some e) b = absurd (let no : ⊥ = cc in no)
     at (Some x) a e b = absurd (let no : ⊥ = cc in no)
-
--- a wiring that a plain text gives can be written
-pub plain-writable : (bytes : List ℕ) (net : Net) → plain_net bytes ≡ Ok net → IsWritable net
-plain-writable bytes net h = at (net_of_text bytes) refl h
-  where
-    at : (r : Result Net NetError) → net_of_text bytes ≡ r → plain_or_later bytes r ≡ Ok net → IsWritable net
-    at (Err e) a b = absurd (let no : ⊥ = cc in no)
-    at (Ok n) a b = same (bytes_eq (written_net n) bytes) b
-      where
-        same : (t : Bool) → cond t (Ok n) (Err Later) ≡ Ok net → IsWritable net
-        same true e = given-writable bytes net (a ∙ e)
-        same false e = absurd (let no : ⊥ = cc in no)

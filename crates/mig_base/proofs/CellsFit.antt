@@ -38,12 +38,12 @@ pub record TakesCells (k g : Kind) (m : Mode) : Type 0 where
 
 -- rows as terms
 
-terms-read-fit : (columns : List Lit) (rows : List Row) → AllByRecursion (FitsColumns columns) rows → AllByRecursion (λ (term : List Lit). IsTrue (fits_row columns term)) (cells.terms_of rows)
+pub terms-read-fit : (columns : List Lit) (rows : List Row) → AllByRecursion (FitsColumns columns) rows → AllByRecursion (λ (term : List Lit). IsTrue (fits_row columns term)) (cells.terms_of rows)
 terms-read-fit columns [] h = tt
 terms-read-fit columns (row.Never ∷ rows) h = terms-read-fit columns rows h.1
 terms-read-fit columns (row.Product lits ∷ rows) h = (h.0, terms-read-fit columns rows h.1)
 
-few-terms : (rows : List Row) → length (cells.terms_of rows) ≤ length rows
+pub few-terms : (rows : List Row) → length (cells.terms_of rows) ≤ length rows
 few-terms [] = omega arith
 few-terms (row.Never ∷ rows) = let few = few-terms rows in omega arith
 few-terms (row.Product lits ∷ rows) = let few = few-terms rows in omega arith
@@ -52,7 +52,7 @@ or-true : (b : Bool) → (b || true) ≡ true
 or-true true = refl
 or-true false = refl
 
-all-made : {T : Type 0} (P : T → Type 0) (f : ℕ → T) (first n : ℕ) → ((r : ℕ) → P (f r)) → AllByRecursion P (made_from f first n)
+pub all-made : {T : Type 0} (P : T → Type 0) (f : ℕ → T) (first n : ℕ) → ((r : ℕ) → P (f r)) → AllByRecursion P (made_from f first n)
 all-made P f first zero h = tt
 all-made P f first (suc n) h = (h first, all-made P f (first + 1) n h)
 
@@ -107,7 +107,7 @@ cell-fits k g m columns pin rows false t h f n = comb-fits k g m columns pin row
 
 -- the pin and the form of a cell
 
-comb-pin : (pin : ℕ) (rows : List Row) → (cells.comb_cell pin true rows).pin ≡ pin
+pub comb-pin : (pin : ℕ) (rows : List Row) → (cells.comb_cell pin true rows).pin ≡ pin
 comb-pin pin [] = refl
 comb-pin pin (row.Never ∷ rows) = refl
 comb-pin pin (row.Product lits ∷ rows) = refl

@@ -7,7 +7,8 @@ use Rattle.mig_base.specs.declared.cells.Source.TheVariants.{Pin, Reg}
 use Rattle.mig_base.specs.declared.cells.Lit.{Lit}
 use Rattle.mig_base.specs.declared.cells.Row.TheVariants as row
 use Rattle.mig_base.specs.Cells.{lits_of, row_of}
-use Rattle.mig_base.specs.WellFormed.{same_source, same_bool, same_lit, rises_in}
+use Rattle.mig_base.specs.Bools.{same_bool}
+use Rattle.mig_base.specs.WellFormed.{same_source, same_lit, rises_in}
 use Rattle.mig_base.specs.WrittenCells.{has_lit}
 use Rattle.mig_base.proofs.RowLaws.{IsDistinct, FitsColumns, rises-absent}
 

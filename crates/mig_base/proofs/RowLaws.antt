@@ -9,7 +9,8 @@ use Rattle.mig_base.specs.declared.cells.Lit.{Lit}
 use Rattle.mig_base.specs.declared.cells.Row.{Row}
 use Rattle.mig_base.specs.declared.cells.Row.TheVariants as row
 use Rattle.mig_base.specs.Cells.{is_among, lit_of, lits_of, row_at, row_of, pair_columns}
-use Rattle.mig_base.specs.WellFormed.{same_source, same_bool, same_lit, rises_in, fits_row}
+use Rattle.mig_base.specs.Bools.{same_bool}
+use Rattle.mig_base.specs.WellFormed.{same_source, same_lit, rises_in, fits_row}
 use Rattle.mig_base.specs.WrittenCells.{has_lit, column_fuse, row_fuses}
 use Rattle.mig_base.proofs.ListLaws.{and-true, or-false, piece-at, all-at, at-all}
 

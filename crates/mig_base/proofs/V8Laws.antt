@@ -218,7 +218,7 @@ made-again c v cell p f =
     ∙ ap (cells.v8_cell_of c.kind c.mode (ac1_fuse c.mode cell) (xor_fuse cell) cell.pin) (rows-of-cell c v cell p)
     ∙ cell-again c.kind c.mode (chip_columns c) cell v.table f
 
-map-back : (g : ℕ → Cell) (xs : List Cell) → AllByRecursion (λ (x : Cell). g x.pin ≡ x) xs → map g (map (λ (x : Cell). x.pin) xs) ≡ xs
+pub map-back : (g : ℕ → Cell) (xs : List Cell) → AllByRecursion (λ (x : Cell). g x.pin ≡ x) xs → map g (map (λ (x : Cell). x.pin) xs) ≡ xs
 map-back g [] h = refl
 map-back g (x ∷ xs) h = ap (λ (y : Cell). y ∷ map g (map (λ (z : Cell). z.pin) xs)) h.0 ∙ ap (λ (rest : List Cell). x ∷ rest) (map-back g xs h.1)
 

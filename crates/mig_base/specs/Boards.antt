@@ -18,6 +18,7 @@ use Rattle.mig_base.specs.declared.nets.PinLine.{PinLine}
 use Rattle.mig_base.specs.declared.nets.Port.{Port}
 use Rattle.mig_base.specs.declared.nets.Port.TheVariants as port
 use Rattle.mig_base.specs.DeviceTables.{ordinary_pins, clock_pin, is_22}
+use Rattle.mig_base.specs.WellFormed.{is_never, is_reg}
 use Rattle.mig_base.specs.declared.nets.Pull.{Pull}
 use Rattle.mig_base.specs.declared.nets.Pull.TheVariants as pull
 use Rattle.mig_base.specs.declared.circuit.Read.{Read}
@@ -91,10 +92,6 @@ in_enable pin _ = false
 abbrev pub in_cell : ℕ → Cell → Bool
 in_cell pin cell = in_enable pin cell.enable || list_any (λ lits. list_any (reads_register pin) lits) cell.terms
 
-abbrev pub is_never : Enable → Bool
-is_never enable.Never = true
-is_never _ = false
-
 -- a registered 22V10 cell that can change no pin, and that nothing reads
 abbrev pub is_mute : ChipCells → Cell → Bool
 is_mute c cell = is_22 c.kind && is_never cell.enable
@@ -108,10 +105,6 @@ makes_unit mute form.Reg = not mute
 -- a cell that is neither Idle nor mute
 abbrev pub is_unit : ChipCells → Cell → Bool
 is_unit c cell = makes_unit (is_mute c cell) cell.form
-
-abbrev pub is_reg : Form → Bool
-is_reg form.Reg = true
-is_reg _ = false
 
 abbrev pub is_registered : ChipUnit → Bool
 is_registered u = is_reg u.cell.form

@@ -2,8 +2,10 @@
 use Rattle.std.specs.Prelude.{ℕ, ◌≡◌, ◌+◌, ◌-◌, ◌^◌, ◌%◌, Bool, true, false, not, ◌&&◌, ◌||◌, List, [], ◌∷◌, length, take, map, sum, filter, if◌then◌else◌, ◌==◌, nat_le, Option, Some, None, unwrap_or, Result, Ok, slice_get}
 use Rattle.std.specs.List.{list_all, list_any, AllByRecursion}
 use Rattle.std.specs.Option.{option_map}
+use Rattle.mig_base.specs.declared.jedec.Field.{Field}
 use Rattle.mig_base.specs.declared.jedec.JedError.{JedError}
 use Rattle.mig_base.specs.declared.jedec.JedError.TheVariants.{NoStx, NoEtx, BadTail, BadSum, BadField, FieldK, CountTwice, CountOver, DefaultTwice, NoCount, Address, FuseTwice, FuseUnset, BadFuseSum}
+use Rattle.mig_base.specs.Bools.{same_bool}
 use Rattle.mig_base.specs.Numbers.{digit_value, hex_value, number_at}
 use Rattle.mig_base.specs.First.{first_refusal, unless, needed, least_from, made_from}
 
@@ -100,11 +102,6 @@ said_by (b ∷ text) =
     else (if b == 67 then sum_of text
     else (if b == 75 then Kept else Other))))
 
--- a field: its text from the identifier on, and the place of the identifier
-pub record Field : Type 0 where
-  pub at : ℕ
-  pub text : List ℕ
-
 -- what a field says, and the place of its identifier
 pub record Statement : Type 0 where
   pub at : ℕ
@@ -191,15 +188,10 @@ abbrev pub default_in : List Statement → Option Bool
 default_in [] = None
 default_in (f ∷ fs) = default_or f.says (default_in fs)
 
--- whether two states are the same
-abbrev pub same_state : Bool → Bool → Bool
-same_state true s = s
-same_state false s = not s
-
 -- whether there is a state and it is this one
 abbrev pub is_state_at : Bool → Option Bool → Bool
 is_state_at state None = false
-is_state_at state (Some s) = same_state state s
+is_state_at state (Some s) = same_bool state s
 
 -- whether this lists the fuse with this state: the digits give the fuses from the first on
 abbrev pub says_state : ℕ → Bool → Said → Bool

@@ -1,3 +1,4 @@
+pub mod Bools
 pub mod Levels
 pub mod Resolve
 pub mod Names
@@ -8,7 +9,6 @@ pub mod DeviceTables
 pub mod Cells
 pub mod FuseText
 pub mod WrittenFuses
-pub mod PlainFuses
 pub mod BoardText
 pub mod WrittenBoard
 pub mod Values

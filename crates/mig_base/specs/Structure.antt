@@ -1,6 +1,7 @@
 -- Alias nets, and the variables of a board's equations.
 use Rattle.std.specs.Prelude.{ℕ, Bool, true, false, not, ◌&&◌, ◌==◌, List, [], ◌∷◌, ◌++◌, length, map, filter, if◌then◌else◌, Option, Some, None, slice_get}
 use Rattle.std.specs.List.{list_any, flat_map}
+use Rattle.mig_base.specs.Bools.{same_bool}
 use Rattle.mig_base.specs.First.{made_from}
 use Rattle.mig_base.specs.declared.circuit.Read.{Read}
 use Rattle.mig_base.specs.declared.circuit.Literal.{Literal}
@@ -20,10 +21,6 @@ same_read (OfNet n) (OfNet m) = n == m
 same_read (OfRegister k) (OfRegister j) = k == j
 same_read (OfNet n) (OfRegister k) = false
 same_read (OfRegister k) (OfNet n) = false
-
-abbrev pub same_bool : Bool → Bool → Bool
-same_bool true b = b
-same_bool false b = not b
 
 abbrev pub same_literal : Literal → Literal → Bool
 same_literal a b = same_read a.source b.source && same_bool a.high b.high

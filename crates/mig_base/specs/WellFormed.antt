@@ -15,6 +15,7 @@ use Rattle.mig_base.specs.declared.cells.Form.{Form}
 use Rattle.mig_base.specs.declared.cells.Form.TheVariants as form
 use Rattle.mig_base.specs.declared.cells.Cell.{Cell}
 use Rattle.mig_base.specs.declared.cells.ChipCells.{ChipCells}
+use Rattle.mig_base.specs.Bools.{same_bool}
 use Rattle.mig_base.specs.DeviceTables.{cell_pins, enable_pin, pal_registers, rows_22, is_22, is_v8, is_gal}
 use Rattle.mig_base.specs.Cells.{is_among, columns_of}
 
@@ -47,10 +48,6 @@ abbrev pub same_source : Source → Source → Bool
 same_source (Pin p) (Pin q) = p == q
 same_source (Reg p) (Reg q) = p == q
 same_source _ _ = false
-
-abbrev pub same_bool : Bool → Bool → Bool
-same_bool true b = b
-same_bool false b = not b
 
 abbrev pub same_lit : Lit → Lit → Bool
 same_lit a b = same_source a.source b.source && same_bool a.high b.high

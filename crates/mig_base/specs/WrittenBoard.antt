@@ -7,8 +7,6 @@ use Rattle.mig_base.specs.declared.nets.Net.{Net}
 use Rattle.mig_base.specs.declared.nets.NetLine.{NetLine}
 use Rattle.mig_base.specs.declared.nets.ChipLine.{ChipLine}
 use Rattle.mig_base.specs.declared.nets.PinLine.{PinLine}
-use Rattle.mig_base.specs.declared.nets.NetError.{NetError}
-use Rattle.mig_base.specs.declared.nets.NetError.TheVariants.{Later}
 use Rattle.mig_base.specs.declared.nets.Port.{Port}
 use Rattle.mig_base.specs.declared.nets.Port.TheVariants.{Inner, Input, Output, Both}
 use Rattle.mig_base.specs.declared.nets.Pull.{Pull}
@@ -110,11 +108,3 @@ pub record IsWritable (net : Net) : Type 0 where
   pub no_input_pulled : IsTrue (list_all (λ l. not (is_pulled l.pull && is_input_port l.port)) net.nets)
   pub pins_in_order : IsTrue (is_part same_place (map place_of net.pins) (board_places 0 net.chips))
   pub pins_on_nets : IsTrue (list_all (λ l. nat_lt l.net (length (net_names net.nets))) net.pins)
-
--- the wiring of a text that is written so, byte for byte
-abbrev pub plain_or_later : List ℕ → Result Net NetError → Result Net NetError
-plain_or_later bytes (Ok net) = if bytes_eq (written_net net) bytes then Ok net else Err Later
-plain_or_later bytes (Err e) = Err Later
-
-abbrev pub plain_net : List ℕ → Result Net NetError
-plain_net bytes = plain_or_later bytes (net_of_text bytes)

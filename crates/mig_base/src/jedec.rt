@@ -1,3 +1,12 @@
+use crate::Items;
+
+/// A field of a fuse text: the place of its identifier, and its bytes from the identifier on, without the asterisk.
+#[derive(Clone, Drop)]
+pub struct Field {
+    pub at: usize,
+    pub text: Items<u8>,
+}
+
 /// Why a fuse text was refused. Places count bytes of the file from 0.
 #[derive(Clone, Copy, Debug, PartialEq, Eq)]
 pub enum JedError {
@@ -15,7 +24,5 @@ pub enum JedError {
     FuseTwice { fuse: u32 },
     FuseUnset { fuse: u32 },
     BadFuseSum { said: u16, found: u16 },
-    /// The text is not of the plain form, which is all that is read so far.
-    Later,
     Memory,
 }

@@ -17,7 +17,7 @@ pub use cells::{Cell, ChipCells, ChipError, Enable, Form, Fuses, Lit, Product, R
 pub use circuit::{Circuit, Driver, Gate, Gives, Levels, Literal, NetKind, Read, Register, Wire};
 pub use files::{FileName, NameError, Stem, file_name};
 pub use items::{Items, NoMemory};
-pub use jedec::JedError;
+pub use jedec::{Field, JedError};
 pub use kinds::{Kind, Mode, is_cell, kind_of, kind_text, pins};
 pub use levels::{Level, and3, not3, or3, read_level, resolve2};
 pub use limits::{MOST_CHIPS, MOST_FILE_BYTES, MOST_FUSES, MOST_NETS};

@@ -101,7 +101,5 @@ pub enum NetError {
     PullTwice { n: u32 },
     PullNet { n: u32 },
     NoEnd,
-    /// The text is not of the plain form, which is all that is read so far.
-    Later,
     Memory,
 }

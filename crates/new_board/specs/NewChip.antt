@@ -18,7 +18,8 @@ use Rattle.mig_base.specs.declared.circuit.Gives.TheVariants.{Sum, Visible}
 use Rattle.mig_base.specs.First.{made_from}
 use Rattle.mig_base.specs.DeviceTables.{pair_pins, clock_pin, enable_pin, is_22, is_v8}
 use Rattle.mig_base.specs.Boards.{ChipUnit, at_of, net_of}
-use Rattle.mig_base.specs.Structure.{same_read, same_bool, alias_of, variable_literal, variable_product, variable_gate, variables_in}
+use Rattle.mig_base.specs.Bools.{same_bool}
+use Rattle.mig_base.specs.Structure.{same_read, alias_of, variable_literal, variable_product, variable_gate, variables_in}
 
 -- the board that is rebuilt: its wiring, its units, and its equations
 pub record OldBoard : Type 0 where

@@ -23,7 +23,8 @@ use Rattle.mig_base.specs.declared.circuit.Gives.TheVariants.{Sum, Visible}
 use Rattle.mig_base.specs.DeviceTables.{ordinary_pins, cell_pins, enable_pin, is_22}
 use Rattle.mig_base.specs.Cells.{columns_of, idle}
 use Rattle.mig_base.specs.Boards.{places_from, is_port}
-use Rattle.mig_base.specs.Structure.{same_bool, variable_gate}
+use Rattle.mig_base.specs.Bools.{same_bool}
+use Rattle.mig_base.specs.Structure.{variable_gate}
 use Rattle.mig_base.specs.WellFormed.{same_lit}
 use Rattle.new_board.specs.NewChip.{OldBoard, NewChip, unit_on, register_on, private_from, terms_over, first_register, is_registered_unit}
 use Rattle.new_board.specs.InputPins.{pin_net, pin_reads, reading_pin}

@@ -17,7 +17,7 @@ use Rattle.mig_base.specs.DeviceTables.{pair_pins, even_reads_q}
 use Rattle.mig_base.specs.Levels.{not3, read_level, level_at}
 use Rattle.mig_base.specs.Values.{literal_value, product_value, product_reads, source_level}
 use Rattle.mig_base.specs.Accepted.{Among}
-use Rattle.mig_base.specs.Structure.{same_bool}
+use Rattle.mig_base.specs.Bools.{same_bool}
 use Rattle.mig_base.specs.WellFormed.{same_lit}
 use Rattle.mig_base.proofs.RowLaws.{same_lit-eq}
 use Rattle.mig_base.proofs.ReadRows.{lit-itself}

@@ -14,7 +14,8 @@ use Rattle.mig_base.specs.declared.circuit.Driver.{Driver}
 use Rattle.mig_base.specs.declared.circuit.Wire.{Wire}
 use Rattle.mig_base.specs.Accepted.{Among, is_fixed}
 use Rattle.mig_base.specs.Values.{row_reads}
-use Rattle.mig_base.specs.Boards.{ChipUnit, net_of, is_reg, is_registered, low_pin, can_drive, driver_of, makes_unit, units_from, circuit_on}
+use Rattle.mig_base.specs.WellFormed.{is_reg}
+use Rattle.mig_base.specs.Boards.{ChipUnit, net_of, is_registered, low_pin, can_drive, driver_of, makes_unit, units_from, circuit_on}
 use Rattle.mig_base.specs.Structure.{alias_of, alias_only, variable_product}
 use Rattle.new_board.specs.NewChip.{NewChip}
 use Rattle.new_board.specs.NewFiles.{new_comb, new_cell}

@@ -29,7 +29,8 @@ use Rattle.mig_base.specs.First.{made_from}
 use Rattle.mig_base.specs.Accepted.{Among}
 use Rattle.mig_base.specs.DeviceTables.{pair_pins, ordinary_pins, is_ordinary, cell_pins, pal_registers, enable_pin, is_v8, is_22}
 use Rattle.mig_base.specs.Cells.{is_among, pal_cell}
-use Rattle.mig_base.specs.Boards.{At, ChipUnit, at_of, pins_from, net_of, is_reg, is_registered, register_of, read_of, literals_of, driver_of, drives, can_drive, places_from, kinds_of, is_unit, makes_unit, units_from, circuit_on}
+use Rattle.mig_base.specs.WellFormed.{is_reg}
+use Rattle.mig_base.specs.Boards.{At, ChipUnit, at_of, pins_from, net_of, is_registered, register_of, read_of, literals_of, driver_of, drives, can_drive, places_from, kinds_of, is_unit, makes_unit, units_from, circuit_on}
 use Rattle.mig_base.specs.Structure.{same_read, alias_of, or_alias, all_variables, variable_by, variable_literal, variable_of}
 use Rattle.new_board.specs.NewChip.{OldBoard, NewChip, unit_on, unit_net, unit_net_of, unit_register, register_on, first_registered, clock_net, private_from, is_register_of, read_by, is_literal_of, is_read_at, is_read, fixed_net, or_option}
 use Rattle.new_board.specs.InputPins.{has_no_driver, stood_on}

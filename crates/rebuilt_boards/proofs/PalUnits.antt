@@ -13,7 +13,8 @@ use Rattle.mig_base.specs.declared.nets.ChipLine.{ChipLine}
 use Rattle.mig_base.specs.Accepted.{Among}
 use Rattle.mig_base.specs.DeviceTables.{is_pal16, cell_pins, ordinary_pins, is_22}
 use Rattle.mig_base.specs.Cells.{is_among, pal_cell, pal_cells}
-use Rattle.mig_base.specs.Boards.{At, ChipUnit, can_drive, driver_of, makes_unit, is_unit, is_never, in_cell, in_row, units_from, circuit_on}
+use Rattle.mig_base.specs.WellFormed.{is_never}
+use Rattle.mig_base.specs.Boards.{At, ChipUnit, can_drive, driver_of, makes_unit, is_unit, in_cell, in_row, units_from, circuit_on}
 use Rattle.new_board.specs.NewChip.{NewChip, private_from, unit_on}
 use Rattle.new_board.specs.InputPins.{has_no_driver, pin_net}
 use Rattle.new_board.specs.NewFiles.{cell_driving, new_cell, new_cells, fitted}

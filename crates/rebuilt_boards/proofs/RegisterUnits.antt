@@ -12,7 +12,8 @@ use Rattle.mig_base.specs.declared.circuit.Gives.TheVariants.{Sum, Visible}
 use Rattle.mig_base.specs.Accepted.{Among}
 use Rattle.mig_base.specs.DeviceTables.{pal_registers}
 use Rattle.mig_base.specs.Cells.{is_among}
-use Rattle.mig_base.specs.Boards.{At, ChipUnit, at_of, place_of, net_of, is_reg, is_registered, registers_of, literals_of, enable_on, low_pin, makes_unit, driver_of, register_of, units_from, circuit_on}
+use Rattle.mig_base.specs.WellFormed.{is_reg}
+use Rattle.mig_base.specs.Boards.{At, ChipUnit, at_of, place_of, net_of, is_registered, registers_of, literals_of, enable_on, low_pin, makes_unit, driver_of, register_of, units_from, circuit_on}
 use Rattle.new_board.specs.NewChip.{NewChip, unit_on, register_given, register_driven, unit_register, register_on, is_registered_unit, first_registered, first_of}
 use Rattle.new_board.specs.NewFiles.{registered_pins}
 use Rattle.new_board.specs.OneForOne.{placed_from}

@@ -1,6 +1,6 @@
 use Rattle.std.proofs.Common.{◌+◌, ◌++◌, List, drop, arith, refl, ap, ◌∙◌}
 use Rattle.mig_base.specs.declared.nets.PinLine.{PinLine}
-use Rattle.board.proofs.Steps.{goes-on}
+use Rattle.equations.proofs.Steps.{goes-on}
 use Rattle.new_board.specs.NewFiles.{new_pins_from}
 use Rattle.build.proofs.new_wires.new_pins.Goals as goal
 

@@ -3,7 +3,7 @@ use Rattle.std.specs.List.{All}
 use Rattle.std.proofs.lemmas.Grind.{common_steps}
 use Rattle.std.proofs.lemmas.List.{length-map}
 use Rattle.mig_base.specs.Boards.{ChipUnit, units_from}
-use Rattle.board.proofs.UnitsWithin.{units-within}
+use Rattle.equations.proofs.UnitsWithin.{units-within}
 use Rattle.new_board.specs.NewFiles.{fitted, new_net}
 use Rattle.new_board.specs.OneForOne.{old_board, same_chips}
 use Rattle.build.proofs.CodeWires.{chips-few}

@@ -1,6 +1,0 @@
-use Rattle.std.proofs.Common.{◌≡◌, [], replicate}
-use Rattle.board.proofs.DriverLemmas.{contents}
-use Rattle.board.proofs.driver_lists.DriverLists.new.Given as goal
-
-abbrev pub invariant-loop : goal.invariant-loop
-invariant-loop l = contents l.lists.items ≡ replicate l.counter []

@@ -1,7 +1,0 @@
-use Rattle.std.proofs.Common.{◌+◌, drop}
-use Rattle.mig_base.specs.Boards.{place_of}
-use Rattle.board.specs.Tables.{IsTable}
-use Rattle.board.proofs.net_numbers.place_table.Given as goal
-
-abbrev pub invariant-loop-place : goal.invariant-loop-place
-invariant-loop-place l = IsTable (λ q. l.first + (l.place + place_of q (drop l.place l.listed))) l.chips l.table
