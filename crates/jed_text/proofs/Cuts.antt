@@ -21,10 +21,6 @@ pub cut_at-none : (byte : ℕ) (bytes : List ℕ) → Lacks byte bytes → cut_a
 cut_at-none byte [] h = refl
 cut_at-none byte (b ∷ bs) h = rw (h.0, cut_at-none byte bs h.1) refl
 
-pub pieces-none : (bytes : List ℕ) → Lacks 42 bytes → pieces bytes ≡ bytes ∷ []
-pieces-none [] h = refl
-pieces-none (b ∷ bs) h = rw (h.0, pieces-none bs h.1) refl
-
 drop_one : (bytes : List ℕ) (i : ℕ) → i < length bytes → drop i bytes ≡ get_or bytes i 0 ∷ drop (i + 1) bytes
 drop_one [] i lt = absurd (omega arith)
 drop_one (b ∷ bs) zero lt = refl

@@ -1,6 +1,9 @@
 pub mod Cuts
 pub mod Lists
+pub mod Unless
 pub mod DigitLemmas
 pub mod FieldLemmas
+pub mod OverallLemmas
 pub mod MarkLemmas
 pub mod FuseLemmas
+pub mod SentLemmas

@@ -1,6 +1,6 @@
 -- The marks of fuses, and how the fields list them.
-use Rattle.std.proofs.Common.{ℕ, zero, suc, ◌≡◌, ◌<◌, ◌≤◌, ◌+◌, ◌-◌, Bool, true, false, cond, ◌&&◌, ◌||◌, List, [], ◌∷◌, ◌++◌, map, take, length, get_or, set, Option, Some, None, eqb, leb, ltb, refl, sym, ap, ◌∙◌, arith, add-zero, zero-add}
-use Rattle.std.specs.Prelude.{not, ◌⊎◌, replicate, position, slice_get}
+use Rattle.std.proofs.Common.{ℕ, zero, suc, ◌≡◌, ◌<◌, ◌≤◌, ◌+◌, ◌-◌, Bool, true, false, cond, ◌&&◌, ◌||◌, List, [], ◌∷◌, ◌++◌, map, length, get_or, set, Option, Some, None, eqb, leb, ltb, refl, sym, ap, ◌∙◌, arith, add-zero, zero-add, append_assoc, append-nil}
+use Rattle.std.specs.Prelude.{not, ◌⊎◌, Result, Ok, replicate, position, slice_get}
 use Rattle.std.specs.List.{filter, position_or_len}
 use Rattle.std.specs.Option.{option_map}
 use Rattle.std.proofs.Common.{inl, inr}
@@ -9,18 +9,14 @@ use Rattle.std.proofs.lemmas.Bool.Decides.{nat_tests}
 use Rattle.std.proofs.lemmas.List.Folds.{list_any-append}
 use Rattle.mig_base.specs.declared.jedec.JedError.{JedError}
 use Rattle.mig_base.specs.declared.jedec.JedError.TheVariants.{Address}
-use Rattle.mig_base.specs.First.{first_refusal, or_else, made_from, least_from}
-use Rattle.mig_base.specs.FuseText.{Said, Count, Default, Listing, FuseSum, Kept, Other, Formless, Statement, says_state, same_state, is_state_at, lists, listed, states_of, is_state, address_refusal, address_refusal_by}
-use Rattle.std.proofs.Math.Seq.{take-append_seam}
+use Rattle.mig_base.specs.First.{first_refusal, or_else, unless, made_from, least_from}
+use Rattle.mig_base.specs.Bools.{same_bool}
+use Rattle.mig_base.specs.FuseText.{Said, Count, Default, Listing, FuseSum, Kept, Other, Formless, Statement, says_state, is_state_at, lists, listed, states_of, is_state, address_refusal, address_refusal_by}
 use Rattle.std.proofs.lemmas.List.{length-map}
 use Rattle.std.proofs.lemmas.List.Sums.{length-filter}
 use Rattle.std.specs.Prelude.{count_by}
-use Rattle.jed_text.specs.declared.fields.Statement.{Statement as ReadStatement}
-use Rattle.std.proofs.lemmas.List.{take_more, map-append}
-use Rattle.jed_text.specs.declared.said.Said.TheVariants as read
-use Rattle.jed_text.specs.Statements.{told, all_told}
 use Rattle.jed_text.specs.declared.marks.Mark.{Mark}
-use Rattle.jed_text.specs.Marks.{unlisted, with_state, marked, marked_by, mark_of, marks_in}
+use Rattle.jed_text.specs.Marks.{unlisted, with_state, marked, marked_by, marked_in, mark_of, marks_in}
 
 -- lists made of equal values are equal
 pub made-same : {T : Type 0} (f g : ℕ → T) (a n : ℕ) → ((j : ℕ) → a ≤ j → f j ≡ g j) → made_from f a n ≡ made_from g a n
@@ -112,20 +108,20 @@ or-true true = refl
 or-true false = refl
 
 -- the first state of a listing is that of its first fuse
-says-first : (j first : ℕ) (t s : Bool) (ss : List Bool) → says_state j t (Listing first (s ∷ ss)) ≡ cond (eqb j first) (same_state t s) (says_state j t (Listing (first + 1) ss))
+says-first : (j first : ℕ) (t s : Bool) (ss : List Bool) → says_state j t (Listing first (s ∷ ss)) ≡ cond (eqb j first) (same_bool t s) (says_state j t (Listing (first + 1) ss))
 says-first j first t s ss = at (cases_lt j first) (cases_lt first j)
   where
     whole : Bool → Bool → Bool → ℕ → Type 0
-    whole l e m k = (l && is_state_at t (slice_get (s ∷ ss) k)) ≡ cond e (same_state t s) (m && is_state_at t (slice_get ss (j - (first + 1))))
+    whole l e m k = (l && is_state_at t (slice_get (s ∷ ss) k)) ≡ cond e (same_bool t s) (m && is_state_at t (slice_get ss (j - (first + 1))))
 
     by : (l e m : Bool) (k : ℕ) → leb first j ≡ l → eqb j first ≡ e → leb (first + 1) j ≡ m → j - first ≡ k →
-        (l && is_state_at t (slice_get (s ∷ ss) k)) ≡ cond e (same_state t s) (m && is_state_at t (slice_get ss (j - (first + 1)))) →
-        says_state j t (Listing first (s ∷ ss)) ≡ cond (eqb j first) (same_state t s) (says_state j t (Listing (first + 1) ss))
+        (l && is_state_at t (slice_get (s ∷ ss) k)) ≡ cond e (same_bool t s) (m && is_state_at t (slice_get ss (j - (first + 1)))) →
+        says_state j t (Listing first (s ∷ ss)) ≡ cond (eqb j first) (same_bool t s) (says_state j t (Listing (first + 1) ss))
     by l e m k el ee em ek h =
         ap (λ b. b && is_state_at t (slice_get (s ∷ ss) (j - first))) el ∙ ap (λ n. l && is_state_at t (slice_get (s ∷ ss) n)) ek ∙ h
-        ∙ sym (ap (λ b. cond b (same_state t s) (says_state j t (Listing (first + 1) ss))) ee ∙ ap (λ b. cond e (same_state t s) (b && is_state_at t (slice_get ss (j - (first + 1))))) em)
+        ∙ sym (ap (λ b. cond b (same_bool t s) (says_state j t (Listing (first + 1) ss))) ee ∙ ap (λ b. cond e (same_bool t s) (b && is_state_at t (slice_get ss (j - (first + 1))))) em)
 
-    at : (j < first) ⊎ (first ≤ j) → (first < j) ⊎ (j ≤ first) → says_state j t (Listing first (s ∷ ss)) ≡ cond (eqb j first) (same_state t s) (says_state j t (Listing (first + 1) ss))
+    at : (j < first) ⊎ (first ≤ j) → (first < j) ⊎ (j ≤ first) → says_state j t (Listing first (s ∷ ss)) ≡ cond (eqb j first) (same_bool t s) (says_state j t (Listing (first + 1) ss))
     at (inl lt) c = by false false false (j - first) (lt-leb first j lt) (grind (arith, nat_tests)) (lt-leb (first + 1) j (omega arith)) refl refl
     at (inr ge) (inl lt) = by true false true (suc (j - (first + 1))) (le-leb first j ge) (grind (arith, nat_tests)) (le-leb (first + 1) j (omega arith)) (omega arith) refl
     at (inr ge) (inr le) = by true true (leb (first + 1) j) 0 (le-leb first j ge) (grind (arith, nat_tests)) refl (omega arith) refl
@@ -152,15 +148,15 @@ listed-first : (f : ℕ → Mark) (first : ℕ) (s : Bool) (ss : List Bool) (j :
 listed-first f first s ss j =
     at (eqb j first) refl
     ∙ sym (ap (λ x. let n : Mark = record { intact = (f j).intact || x; blown = (f j).blown || says_state j true (Listing first (s ∷ ss)) } in n) (says-first j first false s ss)
-    ∙ ap (λ y. let n : Mark = record { intact = (f j).intact || cond (eqb j first) (same_state false s) (says_state j false (Listing (first + 1) ss)); blown = (f j).blown || y } in n) (says-first j first true s ss))
+    ∙ ap (λ y. let n : Mark = record { intact = (f j).intact || cond (eqb j first) (same_bool false s) (says_state j false (Listing (first + 1) ss)); blown = (f j).blown || y } in n) (says-first j first true s ss))
   where
-    here : (s : Bool) (m : Mark) → with_state s m ≡ record { intact = m.intact || same_state false s; blown = m.blown || same_state true s }
+    here : (s : Bool) (m : Mark) → with_state s m ≡ record { intact = m.intact || same_bool false s; blown = m.blown || same_bool true s }
     here true m = mark-same (with_state true m) (m.intact || false) (m.blown || true) (sym (or-false m.intact)) (sym (or-true m.blown))
     here false m = mark-same (with_state false m) (m.intact || true) (m.blown || false) (sym (or-true m.intact)) (sym (or-false m.blown))
 
     at : (b : Bool) → eqb j first ≡ b → listed_by (Listing (first + 1) ss) j (cond b (with_state s (f first)) (f j)) ≡ record {
-      intact = (f j).intact || cond b (same_state false s) (says_state j false (Listing (first + 1) ss));
-      blown = (f j).blown || cond b (same_state true s) (says_state j true (Listing (first + 1) ss));
+      intact = (f j).intact || cond b (same_bool false s) (says_state j false (Listing (first + 1) ss));
+      blown = (f j).blown || cond b (same_bool true s) (says_state j true (Listing (first + 1) ss));
     }
     at false e = refl
     at true e =
@@ -211,21 +207,31 @@ marks-start n = from 0 n
     from a zero = refl
     from a (suc n) = ap (λ ms. unlisted ∷ ms) (from (a + 1) n)
 
-or-none : {E : Type 0} (o r : Option E) → or_else o r ≡ None → (o ≡ None) × (r ≡ None)
-or-none None r h = (refl, h)
-or-none (Some e) r h = cc
+-- the marks with those of these fields besides, unless one goes past the fuses
+abbrev pub marked_on : ℕ → List Mark → List Statement → Result (List Mark) JedError
+marked_on count marks [] = Ok marks
+marked_on count marks (f ∷ fs) = unless (address_refusal count f) (marked_on count (marked_by marks f.says) fs)
 
--- where none is refused, each one is not
-pub each-none : (judge : Statement → Option JedError) (fields : List ReadStatement) (before : List Statement) (i : ℕ) (d : ReadStatement) →
-    first_refusal (λ before f. judge f) before (all_told fields) ≡ None → i < length fields → judge (told (get_or fields i d)) ≡ None
-each-none judge [] before i d h lt = absurd (omega arith)
-each-none judge (f ∷ fs) before zero d h lt = (or-none (judge (told f)) (first_refusal (λ before f. judge f) (before ++ told f ∷ []) (all_told fs)) h).0
-each-none judge (f ∷ fs) before (suc i) d h lt =
-    each-none judge fs (before ++ told f ∷ []) i d (or-none (judge (told f)) (first_refusal (λ before f. judge f) (before ++ told f ∷ []) (all_told fs)) h).1 (omega arith)
+-- the marks of some fields, and then of the others
+marked_rest : (count : ℕ) (before fields : List Statement) →
+    marked_on count (marks_in before count) fields ≡ unless (first_refusal (λ b f. address_refusal count f) before fields) (Ok (marks_in (before ++ fields) count))
+marked_rest count before [] = ap (λ fs. let r : Result (List Mark) JedError = Ok (marks_in fs count) in r) (sym (append-nil before))
+marked_rest count before (f ∷ fs) = at (address_refusal count f) refl (marked_rest count (before ++ f ∷ []) fs)
+  where
+    later : Option JedError
+    later = first_refusal (λ b g. address_refusal count g) (before ++ f ∷ []) fs
 
--- a written part of a list, put back as a whole
-pub written-back : {T : Type 0} (n : ℕ) (new rest : List T) → n ≡ length new → take n (new ++ rest) ≡ new
-written-back n new rest e = ap (λ k. take k (new ++ rest)) e ∙ take-append_seam new rest
+    at : (o : Option JedError) → address_refusal count f ≡ o →
+        marked_on count (marks_in (before ++ f ∷ []) count) fs ≡ unless later (Ok (marks_in ((before ++ f ∷ []) ++ fs) count)) →
+        unless o (marked_on count (marked_by (marks_in before count) f.says) fs) ≡ unless (or_else o later) (Ok (marks_in (before ++ f ∷ fs) count))
+    at (Some e) h rest = refl
+    at None h rest =
+        ap (λ marks. marked_on count marks fs) (marks-more before f count h) ∙ rest
+        ∙ ap (λ all. unless later (let r : Result (List Mark) JedError = Ok (marks_in all count) in r)) (append_assoc before (f ∷ []) fs)
+
+-- the marks that a loop begins with
+pub marked-start : (count : ℕ) (fields : List Statement) → marked_on count (replicate count unlisted) fields ≡ marked_in count fields
+marked-start count fields = ap (λ marks. marked_on count marks fields) (marks-start count) ∙ marked_rest count [] fields
 
 -- the end of a listing that is no longer than the fuses
 pub end-within : (first states count : ℕ) → states ≤ count → leb first (count - states) ≡ leb (first + states) count
@@ -237,17 +243,6 @@ end-within first states count h = at (cases_lt count (first + states))
 
 pub states-count : (text : List ℕ) → length (states_of text) ≡ count_by is_state text
 states-count text = length-map (filter is_state text) (λ b. eqb b 49) ∙ length-filter is_state text
-
--- what a read past the fields would give
-abbrev pub no_statement : ReadStatement
-no_statement = record { at = 0; said = read.Count 0 }
-
--- the marks when the next field is counted in
-pub marks-step : (fields : List ReadStatement) (i n : ℕ) → i < length fields → address_refusal n (told (get_or fields i no_statement)) ≡ None →
-    marked_by (marks_in (all_told (take i fields)) n) (told (get_or fields i no_statement)).says ≡ marks_in (all_told (take (i + 1) fields)) n
-marks-step fields i n lt h =
-    marks-more (all_told (take i fields)) (told (get_or fields i no_statement)) n h
-    ∙ ap (λ before. marks_in before n) (sym (ap all_told (take_more fields i no_statement lt) ∙ map-append told (take i fields) (get_or fields i no_statement ∷ [])))
 
 pub marks-length : (fields : List Statement) (n : ℕ) → length (marks_in fields n) ≡ n
 marks-length fields n = made-length (mark_of fields) 0 n

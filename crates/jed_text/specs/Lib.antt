@@ -1,4 +1,7 @@
 pub mod Digits
-pub mod Statements
+pub mod Sayings
+pub mod Bodies
+pub mod Overalls
 pub mod Marks
 pub mod ReadAnswer
+pub mod Transmissions

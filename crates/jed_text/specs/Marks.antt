@@ -1,11 +1,11 @@
 -- How fuses are listed, fuse by fuse.
-use Rattle.std.specs.Prelude.{ℕ, ◌+◌, Bool, true, false, ◌&&◌, ◌||◌, not, List, [], ◌∷◌, if◌then◌else◌, slice_set, slice_index_or, position, Option, Some, None}
+use Rattle.std.specs.Prelude.{ℕ, ◌+◌, Bool, true, false, ◌&&◌, ◌||◌, not, List, [], ◌∷◌, if◌then◌else◌, slice_set, slice_index_or, position, Option, Some, None, Result, Ok}
 use Rattle.std.specs.Option.{option_map}
 use Rattle.mig_base.specs.declared.jedec.JedError.{JedError}
 use Rattle.mig_base.specs.declared.jedec.JedError.TheVariants.{FuseTwice, FuseUnset}
 use Rattle.jed_text.specs.declared.marks.Mark.{Mark}
-use Rattle.mig_base.specs.First.{made_from}
-use Rattle.mig_base.specs.FuseText.{Said, Listing, Statement, listed}
+use Rattle.mig_base.specs.First.{first_refusal, made_from, unless}
+use Rattle.mig_base.specs.FuseText.{Said, Listing, Statement, address_refusal, listed}
 
 -- a fuse that is not listed
 abbrev pub unlisted : Mark
@@ -33,6 +33,10 @@ mark_of fields fuse = record { intact = listed fields fuse false; blown = listed
 -- the marks of so many fuses
 abbrev pub marks_in : List Statement → ℕ → List Mark
 marks_in fields count = made_from (mark_of fields) 0 count
+
+-- the marks of so many fuses, unless a listing goes past them
+abbrev pub marked_in : ℕ → List Statement → Result (List Mark) JedError
+marked_in count fields = unless (first_refusal (λ before f. address_refusal count f) [] fields) (Ok (marks_in fields count))
 
 -- listed with both states
 abbrev pub is_twice : Mark → Bool

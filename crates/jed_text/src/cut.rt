@@ -1,9 +1,7 @@
-ghost use Rattle.std.specs.Prelude.{◌≡◌, ◌+◌, ◌<◌, ◌≤◌, List, ℕ, map, length, IfOk, IfSome, drop, take};
+ghost use Rattle.std.specs.Prelude.{◌≡◌, ◌+◌, ◌<◌, ◌≤◌, length, IfSome};
 ghost use Rattle.std.specs.Option.{option_map};
 ghost use Rattle.std.specs.List.{list_all};
 ghost use Rattle.mig_base.specs.FuseText as spec;
-
-use std::alloc::{AllocError, Global};
 
 /// What stands before the first such byte, and behind it.
 pub fn cut_at(byte: u8, bytes: &[u8]) -> Option<(&[u8], &[u8])>
@@ -16,20 +14,6 @@ pub fn cut_at(byte: u8, bytes: &[u8]) -> Option<(&[u8], &[u8])>
         }
     }
     None
-}
-
-/// The pieces between asterisks.
-pub fn pieces(alloc: Global, bytes: &[u8]) -> Result<Vec<&[u8]>, AllocError>
-    ensures { IfOk result (λ v. map (λ p. p.now) v.items ≡ spec.pieces bytes.now) }
-{
-    let mut all = Vec::new(alloc);
-    let mut rest = bytes;
-    while let Some((piece, after)) = cut_at(b'*', rest) {
-        all.push(piece)?;
-        rest = after;
-    }
-    all.push(rest)?;
-    Ok(all)
 }
 
 /// Whether a byte is a blank: one from 0x00 to 0x20 other than STX and ETX.

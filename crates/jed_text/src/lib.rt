@@ -1,17 +1,18 @@
 //! Reads fuse texts (JESD3-C, in the profile of docs/formats.md).
 #![tactic(auto)]
 
+mod body;
 mod cut;
-mod fields;
+mod field;
 mod fuses;
 mod marks;
 mod numbers;
-mod plain;
+mod overall;
 mod read;
-mod refusals;
 mod said;
+mod sums;
 
-pub use read::read_jed;
+pub use read::{fields, read_jed};
 
 #[cfg(test)]
 mod tests;

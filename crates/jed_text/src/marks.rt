@@ -1,10 +1,11 @@
-ghost use Rattle.std.specs.Prelude.{◌≡◌, ◌+◌, ◌<◌, ◌≤◌, ◌^◌, [], None, length, map, count_by, nat_le, position, IfOk};
-ghost use Rattle.mig_base.specs.First.{first_refusal};
+ghost use Rattle.std.specs.Prelude.{◌≡◌, ◌≢◌, ◌+◌, ◌<◌, ◌≤◌, ◌^◌, Ok, Err, length, map, count_by, nat_le, position, IfOk, IfErr, IfNone};
+ghost use Rattle.mig_base.specs.declared.jedec.JedError.TheVariants.{Memory};
 ghost use Rattle.mig_base.specs.FuseText as spec;
-ghost use Rattle.jed_text.specs.Statements.{said_of, told, all_told};
-ghost use Rattle.jed_text.specs.Marks.{with_state as mark_with, marked, marked_by, marks_in, is_twice, is_unset, twice_by, unset_by, state_by};
+ghost use Rattle.jed_text.specs.Bodies.{statements_of};
+ghost use Rattle.jed_text.specs.Sayings.{said_of};
+ghost use Rattle.jed_text.specs.Marks.{with_state as mark_with, marked, marked_by, marked_in, is_twice, is_unset, twice_by, unset_by, state_by};
 
-use crate::fields::Statement;
+use crate::body::Body;
 use crate::said::{Said, is_state};
 use mig_base::JedError;
 use std::alloc::{AllocError, Global};
@@ -40,29 +41,16 @@ fn ends_within(count: usize, first: u32, digits: &[u8]) -> bool
     first as usize <= count - states
 }
 
-/// A listing that goes past so many fuses.
-fn address_refusal(count: usize, field: Statement) -> Option<JedError>
-    ensures { result ≡ spec.address_refusal count (told field.entry) }
+/// The refusal of a listing at the place `at` that goes past so many fuses.
+fn address_refusal(count: usize, at: usize, said: Said) -> Option<JedError>
+    ensures { result ≡ spec.address_refusal_by count at (said_of said.entry) }
 {
-    match field.said {
+    match said {
         Said::Listing { first, digits } if !ends_within(count, first, digits) => {
-            Some(JedError::Address { at: field.at })
+            Some(JedError::Address { at })
         }
         _ => None,
     }
-}
-
-/// The first listing that goes past so many fuses.
-pub fn first_beyond(count: usize, fields: &[Statement]) -> Option<JedError>
-    ensures { result ≡ first_refusal (λ before f. spec.address_refusal count f) [] (all_told fields.now) }
-{
-    for field in fields {
-        let refusal = address_refusal(count, *field);
-        if refusal.is_some() {
-            return refusal;
-        }
-    }
-    None
 }
 
 /// A fuse that is listed with this state besides.
@@ -96,24 +84,33 @@ fn mark_digits(marks: &mut [Mark], first: usize, digits: &[u8])
     }
 }
 
-/// Marks the fuses that a field lists.
-fn mark_field(marks: &mut [Mark], field: Statement)
-    requires { spec.address_refusal (length marks.old) (told field) ≡ None }
-    ensures { marks.new ≡ marked_by marks.old (said_of field.entry.said) }
+/// Marks the fuses that a field at the place `at` lists, unless it goes past them.
+fn mark_field(marks: &mut [Mark], at: usize, said: Said) -> Option<JedError>
+    ensures refusal { result ≡ spec.address_refusal_by (length marks.old) at (said_of said.entry) }
+    ensures marked { IfNone result (marks.new ≡ marked_by marks.old (said_of said.entry)) }
 {
-    if let Said::Listing { first, digits } = field.said {
+    let refusal = address_refusal(marks.len(), at, said);
+    if refusal.is_some() {
+        return refusal;
+    }
+    if let Said::Listing { first, digits } = said {
         mark_digits(marks, first as usize, digits);
     }
+    None
 }
 
-/// How the fields list so many fuses, in one pass over them.
-pub fn marks_of(alloc: Global, count: usize, fields: &[Statement]) -> Result<Vec<Mark>, AllocError>
-    requires { first_refusal (λ before f. spec.address_refusal count f) [] (all_told fields.now) ≡ None }
-    ensures { IfOk result (λ marks. marks.items ≡ marks_in (all_told fields.now) count) }
+/// How the fields of a body list so many fuses, or the first listing that goes past them.
+pub fn marks_of(alloc: Global, count: usize, body: Body) -> Result<Vec<Mark>, JedError>
+    ensures marks { IfOk result (λ marks. marked_in count (statements_of body.entry) ≡ Ok marks.items) }
+    ensures refusal { IfErr result (λ e. e ≢ Memory → marked_in count (statements_of body.entry) ≡ Err e) }
 {
-    let mut marks = vec![in alloc; UNLISTED; count]?;
-    for field in fields {
-        mark_field(marks.as_mut_slice(), *field);
+    let Ok(mut marks) = vec![in alloc; UNLISTED; count] else {
+        return Err(JedError::Memory);
+    };
+    for field in body.fields() {
+        if let Some(refusal) = mark_field(marks.as_mut_slice(), field.at, field.said()) {
+            return Err(refusal);
+        }
     }
     Ok(marks)
 }

@@ -1,22 +1,22 @@
-ghost use Rattle.std.specs.Prelude.{◌≡◌, ◌+◌, ◌<◌, ◌^◌, Bool, List, Result, if◌then◌else◌, length, Err};
+ghost use Rattle.std.specs.Prelude.{◌≡◌, IfOk};
 ghost use Rattle.mig_base.specs.FuseText as spec;
-ghost use Rattle.mig_base.specs.declared.jedec.JedError.{JedError};
-ghost use Rattle.mig_base.specs.declared.jedec.JedError.TheVariants.{Later as later_error};
-ghost use Rattle.mig_base.specs.PlainFuses.{has_found_sum, plain_fuses};
+ghost use Rattle.jed_text.specs.Bodies.{field_said};
 ghost use Rattle.jed_text.specs.ReadAnswer.{IsAnswer};
+ghost use Rattle.jed_text.specs.Transmissions.{IsSent, written_fields, fields_of_text};
 
+use crate::body::Body;
 use crate::cut::{cut_at, skip_blanks};
-use crate::fields::fields_of;
+use crate::field::FieldText;
 use crate::fuses::fuses_in;
 use crate::numbers::{Base, number_of_four};
-use crate::plain::has_plain_form;
 use jed_write::byte_sum;
-use mig_base::{Fuses, JedError};
-use std::alloc::Global;
+use mig_base::{Field, Fuses, Items, JedError, NoMemory};
+use std::alloc::{AllocError, Global};
 
-/// Start and end of a transmission.
+/// The start of a transmission.
 const STX: u8 = 0x02;
 
+/// The end of a transmission.
 const ETX: u8 = 0x03;
 
 /// Why what follows ETX is refused, where the transmission has this sum. A said sum of 0000 stands for none.
@@ -38,54 +38,89 @@ fn tail_refusal(found: u16, tail: &[u8]) -> Option<JedError>
     }
 }
 
-/// The fuses of a body and of what follows ETX; the body begins at the place `at`.
-fn fuses_between(alloc: Global, at: usize, body: &[u8], tail: &[u8]) -> Result<Fuses, JedError>
-    requires { at + length body.now < 2 ^ 64 }
-    ensures { IsAnswer result (spec.fuses_between at body.now tail.now) }
-{
-    let found = byte_sum(body).wrapping_add(u16::from(STX + ETX));
-    if let Some(refusal) = tail_refusal(found, tail) {
-        return Err(refusal);
-    }
-    match fields_of(alloc, at, body) {
-        Ok(fields) => fuses_in(alloc, &fields),
-        Err(_) => Err(JedError::Memory),
-    }
+/// What a fuse text sends: what stands between STX and ETX, and what follows ETX.
+#[derive(Clone, Copy)]
+pub struct Transmission<'a> {
+    body: Body<'a>,
+    tail: &'a [u8],
 }
 
-/// The fuses of a fuse text, or the first refusal.
-pub fn read_any(alloc: Global, bytes: &[u8]) -> Result<Fuses, JedError>
-    ensures { IsAnswer result (spec.fuses_of_text bytes.now) }
+/// What a fuse text sends, from the first STX to the first ETX behind it.
+fn sent_in(bytes: &[u8]) -> Result<Transmission<'_>, JedError>
+    ensures { IsSent bytes.now result }
 {
     let Some((before, begun)) = cut_at(STX, bytes) else {
         return Err(JedError::NoStx);
     };
-    let Some((body, tail)) = cut_at(ETX, begun) else {
+    let Some((text, tail)) = cut_at(ETX, begun) else {
         return Err(JedError::NoEtx);
     };
-    fuses_between(alloc, before.len() + 1, body, tail)
+    let at = before.len() + 1;
+    Ok(Transmission {
+        body: Body { at, text },
+        tail,
+    })
 }
 
-/// The fuses of a plain fuse text, the only form that is read so far; every other text is `Later`.
+/// The fuses of a transmission.
+fn fuses_sent(alloc: Global, sent: Transmission) -> Result<Fuses, JedError>
+    ensures { IsAnswer result (spec.fuses_between sent.entry.body.at sent.entry.body.text.now sent.entry.tail.now) }
+{
+    let found = byte_sum(sent.body.text).wrapping_add(u16::from(STX + ETX));
+    if let Some(refusal) = tail_refusal(found, sent.tail) {
+        return Err(refusal);
+    }
+    fuses_in(alloc, sent.body)
+}
+
+/// The fuses of a fuse text (JESD3-C, in the profile of docs/formats.md), or the first refusal.
+///
+/// Takes memory in proportion to the fuses, and time in proportion to the bytes.
 ///
 /// # Errors
-/// `Later` exactly where the text is not of the plain form; `Memory`.
+/// The first refusal in the order of `JedError`, each with its place; `Memory`.
 pub fn read_jed(alloc: Global, bytes: &[u8]) -> Result<Fuses, JedError>
-    ensures { IsAnswer result (plain_fuses bytes.now) }
+    ensures { IsAnswer result (spec.fuses_of_text bytes.now) }
 {
-    match has_plain_form(alloc, bytes) {
-        Ok(true) => plain_answer(read_any(alloc, bytes)),
-        Ok(false) => Err(JedError::Later),
-        Err(_) => Err(JedError::Memory),
-    }
+    fuses_sent(alloc, sent_in(bytes)?)
 }
 
-/// The answer for a text of the plain form, of which the fuse sum is the found one.
-fn plain_answer(answer: Result<Fuses, JedError>) -> Result<Fuses, JedError>
-    ensures { (said : Result (List Bool) JedError) → IsAnswer answer said → IsAnswer result (if has_found_sum said then said else Err later_error) }
+/// A copy of a field.
+fn field_copy(alloc: Global, field: FieldText) -> Result<Field, AllocError>
+    ensures { IfOk result (λ f. f ≡ field_said field.entry) }
 {
-    match answer {
-        Err(JedError::BadFuseSum { .. }) => Err(JedError::Later),
-        _ => answer,
+    let text = Vec::from_slice(alloc, field.text)?;
+    Ok(Field {
+        at: field.at,
+        text: Items::new(text),
+    })
+}
+
+/// The fields of a body, without those of blanks alone.
+fn written_fields_of(alloc: Global, body: Body) -> Result<Vec<Field>, NoMemory>
+    ensures { IfOk result (λ fields. fields.items ≡ written_fields body.entry.at body.entry.text.now) }
+{
+    let mut fields = Vec::new(alloc);
+    for field in body.fields() {
+        if !field.text.is_empty() {
+            fields.push(field_copy(alloc, field)?)?;
+        }
+    }
+    Ok(fields)
+}
+
+/// The fields of a fuse text in the order of the file, without those of blanks alone.
+///
+/// Each has its text from the identifier on, without the asterisk, and the place of the identifier in the file. A text
+/// without STX, or without ETX behind it, has none.
+///
+/// # Errors
+/// Want of memory.
+pub fn fields(alloc: Global, bytes: &[u8]) -> Result<Vec<Field>, NoMemory>
+    ensures { IfOk result (λ fields. fields.items ≡ fields_of_text bytes.now) }
+{
+    match sent_in(bytes) {
+        Ok(sent) => written_fields_of(alloc, sent.body),
+        Err(_) => Ok(Vec::new(alloc)),
     }
 }

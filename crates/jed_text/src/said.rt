@@ -3,7 +3,7 @@ ghost use Rattle.std.specs.List.{list_all};
 ghost use Rattle.mig_base.specs.FuseText.{is_state as is_state_digit, is_blank as blank, listing_of as listing_behind, default_of as default_behind, count_of as count_behind, sum_of as sum_behind, said_by as said_of_text};
 ghost use Rattle.mig_base.specs.FuseText.{Count, or_formless, number_alone as only_number};
 ghost use Rattle.mig_base.specs.Numbers.{digit_value};
-ghost use Rattle.jed_text.specs.Statements.{said_of};
+ghost use Rattle.jed_text.specs.Sayings.{said_of};
 
 use crate::cut::{all_blank, is_blank, skip_blanks};
 use crate::numbers::{Base, number_alone, number_at};
