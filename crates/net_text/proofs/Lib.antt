@@ -1,6 +1,4 @@
 pub mod WrittenSteps
-pub mod LineSteps
-pub mod Numbers
 pub mod Lookups
 pub mod Refusals
 pub mod Wirings

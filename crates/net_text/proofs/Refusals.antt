@@ -11,7 +11,7 @@ use Rattle.mig_base.specs.declared.nets.NetError.TheVariants.{Line as BadLine, N
 use Rattle.mig_base.specs.DeviceTables.{pins_of, ground_of}
 use Rattle.mig_base.specs.First.{or_else}
 use Rattle.mig_base.specs.BoardText.{Says, all_said, is_first, is_head, ends, refuse, said_refusal, line_refusal, net_names, place_named, has_pin, pulls, is_version, cant_pull, net_refusal, pull_refusal, pin_refusal_at}
-use Rattle.net_text.specs.declared.lines.Line.{Line}
+use Rattle.net_text.specs.declared.lines.BoardLine.{BoardLine}
 use Rattle.net_text.specs.Statements.{says_of, all_says, line_of}
 use Rattle.net_text.proofs.Lookups.{any-said}
 
@@ -23,7 +23,7 @@ net-refused n nets name over twice a b =
 abbrev pub pull_tests : ℕ → Bool → Bool → Bool → Bool → Option NetError
 pull_tests n old unknown twice other = or_else (refuse old (BadLine n)) (or_else (refuse unknown (NetUnknown n)) (or_else (refuse twice (PullTwice n)) (refuse other (PullNet n))))
 
-pub pull-refused : (n : ℕ) (before : List Line) (nets : List NetLine) (net : List ℕ) (old unknown twice other : Bool) →
+pub pull-refused : (n : ℕ) (before : List BoardLine) (nets : List NetLine) (net : List ℕ) (old unknown twice other : Bool) →
     list_any (λ l. is_version 1 (says_of l.says)) before ≡ old → is_none (place_named net (net_names nets)) ≡ unknown → list_any (λ l. pulls net (says_of l.says)) before ≡ twice → cant_pull nets net ≡ other →
     pull_refusal n (all_says before) nets net ≡ pull_tests n old unknown twice other
 pull-refused n before nets net old unknown twice other a b c d =
@@ -34,7 +34,7 @@ pull-refused n before nets net old unknown twice other a b c d =
 abbrev pub pin_tests : ℕ → Bool → Bool → Bool → Option NetError
 pin_tests n there twice power = or_else (refuse (not there) (PinUnknown n)) (or_else (refuse twice (PinTwice n)) (refuse power (PowerPin n)))
 
-pub pin-refused : (n : ℕ) (before : List Line) (chip : List ℕ) (pin : ℕ) (line : Option ChipLine) (net : Option ℕ) (c : ChipLine) (k : ℕ) (there twice power : Bool) → line ≡ Some c → net ≡ Some k →
+pub pin-refused : (n : ℕ) (before : List BoardLine) (chip : List ℕ) (pin : ℕ) (line : Option ChipLine) (net : Option ℕ) (c : ChipLine) (k : ℕ) (there twice power : Bool) → line ≡ Some c → net ≡ Some k →
     (nat_le 1 pin && nat_le pin (pins_of c.kind)) ≡ there → list_any (λ l. has_pin chip pin (says_of l.says)) before ≡ twice →
     (((pin == ground_of c.kind) && not (k == 0)) || ((pin == pins_of c.kind) && not (k == 1))) ≡ power →
     pin_refusal_at n (all_says before) chip pin line net ≡ pin_tests n there twice power
@@ -44,15 +44,15 @@ pin-refused n before chip pin line net c k there twice power e f a b d =
     ∙ ap (λ (t : Bool). pin_tests n there t (((pin == ground_of c.kind) && not (k == 0)) || ((pin == pins_of c.kind) && not (k == 1)))) (any-said (has_pin chip pin) before ∙ b)
     ∙ ap (λ (t : Bool). pin_tests n there twice t) d
 
-none-first : (before : List Line) → is_first (map line_of before) ≡ eqb (length before) 0
+none-first : (before : List BoardLine) → is_first (map line_of before) ≡ eqb (length before) 0
 none-first [] = refl
 none-first (l ∷ before) = sym (ne_eqb (suc (length before)) 0 (λ e. absurd (omega arith)))
 
-pub said-of : (before : List Line) → all_said (map line_of before) ≡ all_says before
+pub said-of : (before : List BoardLine) → all_said (map line_of before) ≡ all_says before
 said-of [] = refl
 said-of (l ∷ before) = ap (λ (ss : List Says). says_of l.says ∷ ss) (said-of before)
 
-pub ends-of : (before : List Line) → list_any (λ b. ends b.said) (map line_of before) ≡ list_any (λ l. ends (says_of l.says)) before
+pub ends-of : (before : List BoardLine) → list_any (λ b. ends b.said) (map line_of before) ≡ list_any (λ l. ends (says_of l.says)) before
 ends-of [] = refl
 ends-of (l ∷ before) = ap (λ (t : Bool). ends (says_of l.says) || t) (ends-of before)
 
@@ -60,7 +60,7 @@ two-tests : (n : ℕ) (a b : Bool) (o : Option NetError) → or_else (refuse a (
 two-tests n true b o = refl
 two-tests n false b o = refl
 
-pub line-refused : (before : List Line) (line : Line) (out : Bool) → (((length before == 0) && not (is_head (says_of line.says))) || list_any (λ l. ends (says_of l.says)) before) ≡ out →
+pub line-refused : (before : List BoardLine) (line : BoardLine) (out : Bool) → (((length before == 0) && not (is_head (says_of line.says))) || list_any (λ l. ends (says_of l.says)) before) ≡ out →
     line_refusal (map line_of before) (line_of line) ≡ or_else (refuse out (BadLine line.n)) (said_refusal line.n (all_says before) (says_of line.says))
 line-refused before line out h =
     let n = line.n in

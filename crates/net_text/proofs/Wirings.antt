@@ -10,7 +10,7 @@ use Rattle.mig_base.specs.declared.nets.Pull.TheVariants.{Free}
 use Rattle.mig_base.specs.DeviceTables.{is_ordinary}
 use Rattle.mig_base.specs.First.{made_from}
 use Rattle.mig_base.specs.BoardText.{Says, names_of_nets, net_at, net_on, has_pin, pulls, pull_in, pull_on, pins_of_chip, pins_in}
-use Rattle.net_text.specs.declared.lines.Line.{Line}
+use Rattle.net_text.specs.declared.lines.BoardLine.{BoardLine}
 use Rattle.net_text.specs.Statements.{says_of, all_says}
 
 -- the line of a pin, where it is on a net
@@ -62,24 +62,24 @@ chips-done ss cs j before all done h = sym (append-nil before) ∙ ap (λ (ds : 
 
 -- pulls
 
-pub pull-at : (ls : List Line) (i : ℕ) (l : Line) (net : List ℕ) (t : Bool) → i < length ls → l ≡ get_or ls i l → pulls net (says_of l.says) ≡ t →
+pub pull-at : (ls : List BoardLine) (i : ℕ) (l : BoardLine) (net : List ℕ) (t : Bool) → i < length ls → l ≡ get_or ls i l → pulls net (says_of l.says) ≡ t →
     pull_in (all_says (drop i ls)) net ≡ cond t (pull_on (says_of l.says)) (pull_in (all_says (drop (i + 1) ls)) net)
 pull-at ls i l net t lt is h =
-    ap (λ (xs : List Line). pull_in (all_says xs) net) (drop_more ls i l lt)
-    ∙ ap (λ (x : Line). cond (pulls net (says_of x.says)) (pull_on (says_of x.says)) (pull_in (all_says (drop (i + 1) ls)) net)) (sym is)
+    ap (λ (xs : List BoardLine). pull_in (all_says xs) net) (drop_more ls i l lt)
+    ∙ ap (λ (x : BoardLine). cond (pulls net (says_of x.says)) (pull_on (says_of x.says)) (pull_in (all_says (drop (i + 1) ls)) net)) (sym is)
     ∙ ap (λ (b : Bool). cond b (pull_on (says_of l.says)) (pull_in (all_says (drop (i + 1) ls)) net)) h
 
-pub pull-past : (ls : List Line) (i : ℕ) (net : List ℕ) → length ls ≤ i → pull_in (all_says (drop i ls)) net ≡ Free
-pull-past ls i net h = ap (λ (xs : List Line). pull_in (all_says xs) net) (drop_all i ls h)
+pub pull-past : (ls : List BoardLine) (i : ℕ) (net : List ℕ) → length ls ≤ i → pull_in (all_says (drop i ls)) net ≡ Free
+pull-past ls i net h = ap (λ (xs : List BoardLine). pull_in (all_says xs) net) (drop_all i ls h)
 
 -- the net of a pin
 
-pub net-at : (ls : List Line) (i : ℕ) (l : Line) (names : List (List ℕ)) (chip : List ℕ) (pin : ℕ) (t : Bool) → i < length ls → l ≡ get_or ls i l → has_pin chip pin (says_of l.says) ≡ t →
+pub net-at : (ls : List BoardLine) (i : ℕ) (l : BoardLine) (names : List (List ℕ)) (chip : List ℕ) (pin : ℕ) (t : Bool) → i < length ls → l ≡ get_or ls i l → has_pin chip pin (says_of l.says) ≡ t →
     net_at (all_says (drop i ls)) names chip pin ≡ cond t (net_on names (says_of l.says)) (net_at (all_says (drop (i + 1) ls)) names chip pin)
 net-at ls i l names chip pin t lt is h =
-    ap (λ (xs : List Line). net_at (all_says xs) names chip pin) (drop_more ls i l lt)
-    ∙ ap (λ (x : Line). cond (has_pin chip pin (says_of x.says)) (net_on names (says_of x.says)) (net_at (all_says (drop (i + 1) ls)) names chip pin)) (sym is)
+    ap (λ (xs : List BoardLine). net_at (all_says xs) names chip pin) (drop_more ls i l lt)
+    ∙ ap (λ (x : BoardLine). cond (has_pin chip pin (says_of x.says)) (net_on names (says_of x.says)) (net_at (all_says (drop (i + 1) ls)) names chip pin)) (sym is)
     ∙ ap (λ (b : Bool). cond b (net_on names (says_of l.says)) (net_at (all_says (drop (i + 1) ls)) names chip pin)) h
 
-pub net-past : (ls : List Line) (i : ℕ) (names : List (List ℕ)) (chip : List ℕ) (pin : ℕ) → length ls ≤ i → net_at (all_says (drop i ls)) names chip pin ≡ None
-net-past ls i names chip pin h = ap (λ (xs : List Line). net_at (all_says xs) names chip pin) (drop_all i ls h)
+pub net-past : (ls : List BoardLine) (i : ℕ) (names : List (List ℕ)) (chip : List ℕ) (pin : ℕ) → length ls ≤ i → net_at (all_says (drop i ls)) names chip pin ≡ None
+net-past ls i names chip pin h = ap (λ (xs : List BoardLine). net_at (all_says xs) names chip pin) (drop_all i ls h)

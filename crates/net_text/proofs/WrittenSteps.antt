@@ -1,12 +1,12 @@
--- One more word of a line, and one more line of a text.
-use Rattle.std.proofs.Common.{ℕ, zero, suc, ◌≡◌, ◌+◌, ◌<◌, ◌≤◌, List, [], ◌∷◌, ◌++◌, map, length, take, get_or, refl, sym, ap, ◌∙◌, arith, append_assoc, Bor, ◌-◌}
+-- One more line of a text.
+use Rattle.std.proofs.Common.{ℕ, zero, suc, ◌≡◌, ◌+◌, ◌<◌, ◌≤◌, List, [], ◌∷◌, ◌++◌, map, length, take, get_or, refl, sym, ap, ◌∙◌, arith, append_assoc, ◌-◌}
 use Rattle.std.specs.Prelude.{codes}
 use Rattle.std.specs.Fmt.{decimal}
-use Rattle.std.proofs.lemmas.List.{length-map, length-take-le, get_or-map}
+use Rattle.std.proofs.lemmas.List.{length-map, get_or-map}
 use Rattle.std.proofs.lemmas.Option.{slice_get_within, get_or_from_slice_get}
 use Rattle.mig_base.specs.declared.nets.ChipLine.{ChipLine}
 use Rattle.mig_base.specs.BoardText.{net_names}
-use Rattle.std.specs.List.{join_with_byte, flat_map, filter_map, cons_option, AllByRecursion}
+use Rattle.std.specs.List.{flat_map, filter_map, cons_option, AllByRecursion}
 use Rattle.std.proofs.lemmas.List.{take_more, append-nil, map_more}
 use Rattle.std.proofs.lemmas.List.Elements.{filter_map-append}
 use Rattle.std.proofs.lemmas.List.Concat.{flat_map-append}
@@ -17,11 +17,6 @@ use Rattle.mig_base.specs.declared.nets.Pull.{Pull}
 use Rattle.mig_base.specs.declared.nets.Pull.TheVariants.{Free, Up, Down}
 use Rattle.mig_base.specs.WrittenBoard.{written_line, pull_line, pull_line_at, pin_line, chip_name, net_name, IsWritable}
 use Rattle.mig_base.proofs.BoardSays.{IsWired, pins-wired, chip-name-is}
-
-pub join-push : (ws : List (List ℕ)) (w : List ℕ) → 0 < length ws → join_with_byte 32 (ws ++ w ∷ []) ≡ join_with_byte 32 ws ++ 32 ∷ w
-join-push [] w h = absurd (omega arith)
-join-push (v ∷ []) w h = refl
-join-push (v ∷ u ∷ ws) w h = ap (λ (bs : List ℕ). v ++ 32 ∷ bs) (join-push (u ∷ ws) w (omega arith)) ∙ sym (append_assoc v (32 ∷ join_with_byte 32 (u ∷ ws)) (32 ∷ w))
 
 -- one more pulled net, or one that isn't
 pub pulls-more : (lines : List NetLine) (i : ℕ) (d : NetLine) → i < length lines →
@@ -39,24 +34,6 @@ wired-at net w i d lt = at net.pins i (pins-wired net w) lt
     at [] k h lt = absurd (omega arith)
     at (l ∷ ls) zero h lt = h.0
     at (l ∷ ls) (suc k) h lt = at ls k h.1 (omega arith)
-
--- one more word of a line: the first, or one behind a space
-pub first-word : (ws : List (Bor (List ℕ))) (i : ℕ) (d : Bor (List ℕ)) (start before between after : List ℕ) → i < length ws → i ≤ 0 →
-    before ≡ start ++ join_with_byte 32 (map (λ w. w.now) (take i ws)) → between ≡ before → after ≡ between ++ (get_or ws i d).now →
-    after ≡ start ++ join_with_byte 32 (map (λ w. w.now) (take (i + 1) ws))
-first-word [] i d start before between after lt low h m k = absurd (omega arith)
-first-word (w ∷ ws) zero d start before between after lt low h m k = k ∙ ap (λ (bs : List ℕ). bs ++ w.now) m ∙ ap (λ (bs : List ℕ). bs ++ w.now) (h ∙ append-nil start)
-first-word (w ∷ ws) (suc i) d start before between after lt low h m k = absurd (omega arith)
-
-pub next-word : (ws : List (Bor (List ℕ))) (i : ℕ) (d : Bor (List ℕ)) (start before between after : List ℕ) → i < length ws → 0 < i →
-    before ≡ start ++ join_with_byte 32 (map (λ w. w.now) (take i ws)) → between ≡ before ++ 32 ∷ [] → after ≡ between ++ (get_or ws i d).now →
-    after ≡ start ++ join_with_byte 32 (map (λ w. w.now) (take (i + 1) ws))
-next-word ws i d start before between after lt some h m k =
-    let done = map (λ w. w.now) (take i ws) in
-    let word = (get_or ws i d).now in
-    let long : length done ≡ i = length-map (take i ws) (λ w. w.now) ∙ length-take-le i ws (omega arith) in
-    k ∙ ap (λ (bs : List ℕ). bs ++ word) m ∙ ap (λ (bs : List ℕ). (bs ++ 32 ∷ []) ++ word) h ∙ append_assoc (start ++ join_with_byte 32 done) (32 ∷ []) word ∙ append_assoc start (join_with_byte 32 done) (32 ∷ word)
-    ∙ ap (λ (bs : List ℕ). start ++ bs) (sym (join-push done word (omega arith)) ∙ ap (join_with_byte 32) (sym (map_more (λ w. w.now) ws i d lt)))
 
 -- the text of a net's pull
 abbrev pub pulled_text : List ℕ → Pull → List ℕ

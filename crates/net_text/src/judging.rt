@@ -4,16 +4,17 @@ ghost use Rattle.std.specs.Str.{bytes_eq};
 ghost use Rattle.mig_base.specs.BoardText as spec;
 ghost use Rattle.net_text.specs.Statements.{line_of, says_of, all_says};
 
-use crate::lines::Line;
-use crate::says::{Said, is};
+use crate::lines::BoardLine;
+use crate::says::Said;
 use mig_base::{ChipLine, Kind, MOST_CHIPS, MOST_NETS, Name, NetError, NetLine, Port, pins};
+use text_lines::is;
 
 /// What is wrong with a line behind these, which say these nets and chips.
 pub(crate) fn refusal(
-    before: &[Line],
+    before: &[BoardLine],
     nets: &[NetLine],
     chips: &[ChipLine],
-    line: &Line,
+    line: &BoardLine,
 ) -> Option<NetError>
     requires nets_said { nets.now ≡ spec.nets_in (all_says before.now) }
     requires chips_said { chips.now ≡ spec.chips_in (all_says before.now) }
@@ -26,7 +27,7 @@ pub(crate) fn refusal(
 }
 
 /// A first line that is no head, or a line behind the end.
-fn is_out_of_order(before: &[Line], line: &Line) -> bool
+fn is_out_of_order(before: &[BoardLine], line: &BoardLine) -> bool
     ensures { result ≡ (((length before.now == 0) && not (spec.is_head (says_of line.now.says))) || list_any (λ l. spec.ends (says_of l.says)) before.now) }
 {
     (before.is_empty() && !is_head(&line.says)) || any_ends(before)
@@ -34,10 +35,10 @@ fn is_out_of_order(before: &[Line], line: &Line) -> bool
 
 /// What is wrong with a line, by what it says.
 fn said_refusal(
-    before: &[Line],
+    before: &[BoardLine],
     nets: &[NetLine],
     chips: &[ChipLine],
-    line: &Line,
+    line: &BoardLine,
 ) -> Option<NetError>
     requires nets_said { nets.now ≡ spec.nets_in (all_says before.now) }
     requires chips_said { chips.now ≡ spec.chips_in (all_says before.now) }
@@ -91,7 +92,7 @@ fn chip_refusal(chips: &[ChipLine], n: u32, name: &[u8], kind: Option<Kind>) -> 
 }
 
 fn pin_refusal(
-    before: &[Line],
+    before: &[BoardLine],
     n: u32,
     chip: &[u8],
     pin: u32,
@@ -129,7 +130,7 @@ fn is_power_elsewhere(last: u32, pin: u32, net: usize) -> bool
     (pin == last / 2 && net != 0) || (pin == last && net != 1)
 }
 
-fn pull_refusal(before: &[Line], nets: &[NetLine], n: u32, net: &[u8]) -> Option<NetError>
+fn pull_refusal(before: &[BoardLine], nets: &[NetLine], n: u32, net: &[u8]) -> Option<NetError>
     ensures { result ≡ spec.pull_refusal n (all_says before.now) nets.now net.now }
 {
     if any_first_version(before) {
@@ -222,7 +223,7 @@ fn is_head(said: &Said) -> bool
 }
 
 /// Whether one of the lines ends the text.
-pub(crate) fn any_ends(lines: &[Line]) -> bool
+pub(crate) fn any_ends(lines: &[BoardLine]) -> bool
     ensures { result ≡ list_any (λ l. spec.ends (says_of l.says)) lines.now }
 {
     lines.iter().any(|l| ends(&l.says))
@@ -237,7 +238,7 @@ fn ends(said: &Said) -> bool
     }
 }
 
-fn any_first_version(lines: &[Line]) -> bool
+fn any_first_version(lines: &[BoardLine]) -> bool
     ensures { result ≡ list_any (λ l. spec.is_version 1 (says_of l.says)) lines.now }
 {
     lines.iter().any(|l| is_first_version(&l.says))
@@ -252,7 +253,7 @@ fn is_first_version(said: &Said) -> bool
     }
 }
 
-fn any_on_pin(lines: &[Line], chip: &[u8], pin: u32) -> bool
+fn any_on_pin(lines: &[BoardLine], chip: &[u8], pin: u32) -> bool
     ensures { result ≡ list_any (λ l. spec.has_pin chip.now pin (says_of l.says)) lines.now }
 {
     lines.iter().any(|l| is_on_pin(&l.says, chip, pin))
@@ -272,7 +273,7 @@ pub(crate) fn is_on_pin(said: &Said, chip: &[u8], pin: u32) -> bool
     }
 }
 
-fn any_pulls(lines: &[Line], net: &[u8]) -> bool
+fn any_pulls(lines: &[BoardLine], net: &[u8]) -> bool
     ensures { result ≡ list_any (λ l. spec.pulls net.now (says_of l.says)) lines.now }
 {
     lines.iter().any(|l| is_pull_of(&l.says, net))

@@ -3,7 +3,7 @@ ghost use Rattle.mig_base.specs.BoardText as spec;
 ghost use Rattle.net_text.specs.Statements.{says_of, Judges};
 
 use crate::judging::refusal;
-use crate::lines::Line;
+use crate::lines::BoardLine;
 use crate::says::Said;
 use mig_base::{ChipLine, Kind, Name, NetError, NetLine, Pull};
 use std::alloc::{AllocError, Global};
@@ -16,7 +16,7 @@ pub(crate) struct Parts {
 }
 
 /// The nets and chips of the lines, each judged by those before it, or the first refusal.
-pub(crate) fn judged(alloc: Global, lines: &[Line]) -> Result<Parts, NetError>
+pub(crate) fn judged(alloc: Global, lines: &[BoardLine]) -> Result<Parts, NetError>
     ensures { Judges lines.now result }
 {
     let mut nets = Vec::new(alloc);

@@ -1,47 +1,20 @@
-ghost use Rattle.std.specs.Prelude.{◌≡◌, ◌<◌, ◌^◌, length, Ok};
+ghost use Rattle.std.specs.Prelude.{◌<◌, ◌^◌, length};
 ghost use Rattle.mig_base.specs.BoardText.{net_of_text};
-ghost use Rattle.mig_base.specs.WrittenBoard.{plain_net};
 ghost use Rattle.net_text.specs.Statements.{Answers};
 
 use crate::judging::any_ends;
 use crate::lines::said_lines;
 use crate::parts::judged;
-use crate::says::is;
 use crate::wiring::wiring;
-use crate::writing::write_net;
 use mig_base::{Net, NetError};
 use std::alloc::Global;
 
-/// The wiring of a board text in the plain form, which is what `write_net` writes, byte for byte.
-/// `Later` exactly where the text is not of that form.
-pub fn read_net(alloc: Global, bytes: &[u8]) -> Result<Net, NetError>
-    requires { length bytes.now < 2 ^ 32 }
-    ensures { Answers (plain_net bytes.now) result }
-{
-    match read_any(alloc, bytes) {
-        Ok(net) => plain(alloc, net, bytes),
-        Err(NetError::Memory) => Err(NetError::Memory),
-        Err(_) => Err(NetError::Later),
-    }
-}
-
-/// The wiring, where the text is what is written for it.
-fn plain(alloc: Global, net: Net, bytes: &[u8]) -> Result<Net, NetError>
-    requires { net_of_text bytes.now ≡ Ok net }
-    ensures { Answers (plain_net bytes.now) result }
-{
-    let Ok(text) = write_net(alloc, &net) else {
-        return Err(NetError::Memory);
-    };
-    if is(text.as_slice(), bytes) {
-        Ok(net)
-    } else {
-        Err(NetError::Later)
-    }
-}
-
 /// The wiring that a board text says, or the first refusal.
-pub(crate) fn read_any(alloc: Global, bytes: &[u8]) -> Result<Net, NetError>
+///
+/// # Errors
+/// The refusal of the first line that fails, with its number from 1; `NoEnd` where none fails and there is no `end`;
+/// `Memory`.
+pub fn read_net(alloc: Global, bytes: &[u8]) -> Result<Net, NetError>
     requires { length bytes.now < 2 ^ 32 }
     ensures { Answers (net_of_text bytes.now) result }
 {

@@ -1,14 +1,9 @@
-ghost use Rattle.std.specs.Prelude.{◌≡◌, ◌∷◌, [], map, Option, nat_le, ◌&&◌};
-ghost use Rattle.std.specs.List.{list_all};
-ghost use Rattle.std.specs.Str.{bytes_eq};
-ghost use Rattle.mig_base.specs.Lines.{number_of};
+ghost use Rattle.std.specs.Prelude.{◌≡◌, ◌∷◌, [], map};
 ghost use Rattle.mig_base.specs.BoardText as spec;
 ghost use Rattle.net_text.specs.Statements.{says_of};
 
 use mig_base::{Kind, Name, Port, Pull, kind_of};
-
-/// The most digits of a number.
-const MOST_DIGITS: usize = 9;
+use text_lines::{is, number};
 
 /// What a line says, by its form alone. A chip may have an unknown kind.
 #[derive(Clone, Copy)]
@@ -44,13 +39,6 @@ pub(crate) fn says(words: &[&[u8]]) -> Said
     } else {
         Said::Wrong
     }
-}
-
-/// Whether a word is this text.
-pub(crate) fn is(word: &[u8], text: &[u8]) -> bool
-    ensures { result ≡ bytes_eq word.now text.now }
-{
-    word == text
 }
 
 fn after_net(words: &[&[u8]]) -> Said
@@ -145,26 +133,6 @@ fn pin_on(chip: &[u8], pin: &[u8], net: &[u8]) -> Said
         Some(pin) => Said::Pin { chip, pin, net },
         None => Said::Wrong,
     }
-}
-
-/// A number of one to nine digits.
-fn number(word: &[u8]) -> Option<u32>
-    ensures { result ≡ number_of word.now }
-{
-    if word.is_empty() || word.len() > MOST_DIGITS || !all_digits(word) {
-        return None;
-    }
-    let mut value: u32 = 0;
-    for digit in word {
-        value = value * 10 + (*digit - b'0') as u32;
-    }
-    Some(value)
-}
-
-fn all_digits(word: &[u8]) -> bool
-    ensures { result ≡ list_all (λ b. nat_le 48 b && nat_le b 57) word.now }
-{
-    word.iter().all(|b| b'0' <= *b && *b <= b'9')
 }
 
 fn after_pull(words: &[&[u8]]) -> Said

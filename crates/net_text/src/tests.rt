@@ -1,4 +1,3 @@
-use crate::reading::read_any;
 use crate::{read_net, write_net};
 use mig_base::{Net, NetError, PinLine};
 use std::alloc::Global;
@@ -17,16 +16,16 @@ fn refusal_of(alloc: Global, text: &str) -> Option<NetError> {
     if text.len() > 1_048_576 {
         return None;
     }
-    match read_any(alloc, text.as_bytes()) {
+    match read_net(alloc, text.as_bytes()) {
         Ok(_) => None,
         Err(error) => Some(error),
     }
 }
 
-/// The bytes that are written for what a plain text gives.
+/// The bytes that are written for what a text gives.
 fn written_again(alloc: Global, bytes: &[u8]) -> Result<Vec<u8>, NetError> {
     if bytes.len() > 1_048_576 {
-        return Err(NetError::Later);
+        return Err(NetError::NoEnd);
     }
     let net = read_net(alloc, bytes)?;
     match write_net(alloc, &net) {
@@ -35,16 +34,16 @@ fn written_again(alloc: Global, bytes: &[u8]) -> Result<Vec<u8>, NetError> {
     }
 }
 
-fn plain(alloc: Global, bytes: &[u8]) -> Result<Net, NetError> {
+fn wiring_of(alloc: Global, bytes: &[u8]) -> Result<Net, NetError> {
     if bytes.len() > 1_048_576 {
-        return Err(NetError::Later);
+        return Err(NetError::NoEnd);
     }
     read_net(alloc, bytes)
 }
 
 #[test]
-fn a_plain_text_is_read(rt: HostRuntime) -> Result<(), Fail> {
-    let net = plain(rt.alloc(), BOARD.as_bytes())?;
+fn a_text_is_read(rt: HostRuntime) -> Result<(), Fail> {
+    let net = wiring_of(rt.alloc(), BOARD.as_bytes())?;
     assert_eq!(rt; net.nets.items().len(), 3);
     assert_eq!(rt; net.chips.items().len(), 1);
     let pins = [
@@ -69,16 +68,17 @@ fn a_plain_text_is_read(rt: HostRuntime) -> Result<(), Fail> {
 }
 
 #[test]
-fn a_plain_text_is_written_again(rt: HostRuntime) -> Result<(), Fail> {
+fn a_text_is_written_again(rt: HostRuntime) -> Result<(), Fail> {
     let text = written_again(rt.alloc(), BOARD.as_bytes())?;
     assert!(rt; text.as_slice() == BOARD.as_bytes());
     Ok(())
 }
 
 #[test]
-fn a_comment_is_for_later(rt: HostRuntime) {
-    let text = b"board 1\n# none\nend\n";
-    assert!(rt; matches!(plain(rt.alloc(), text), Err(NetError::Later)));
+fn a_comment_is_read_over(rt: HostRuntime) -> Result<(), Fail> {
+    let net = wiring_of(rt.alloc(), b"board 1\r\n# none\r\nnet\tA in\nend")?;
+    assert_eq!(rt; net.nets.items().len(), 1);
+    Ok(())
 }
 
 #[test]

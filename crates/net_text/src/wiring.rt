@@ -4,14 +4,14 @@ ghost use Rattle.mig_base.specs.BoardText as spec;
 ghost use Rattle.net_text.specs.Statements.{says_of, all_says};
 
 use crate::judging::{is_on_pin, is_pull_of, place};
-use crate::lines::Line;
+use crate::lines::BoardLine;
 use crate::parts::Parts;
 use crate::says::Said;
 use mig_base::{ChipLine, Items, Kind, Name, Net, NetLine, NoMemory, PinLine, Pull, pins};
 use std::alloc::{AllocError, Global};
 
 /// The wiring that lines say.
-pub(crate) fn wiring(alloc: Global, lines: &[Line], parts: Parts) -> Result<Net, NoMemory>
+pub(crate) fn wiring(alloc: Global, lines: &[BoardLine], parts: Parts) -> Result<Net, NoMemory>
     requires nets_said { parts.nets.items ≡ spec.nets_in (all_says lines.now) }
     requires chips_said { parts.chips.items ≡ spec.chips_in (all_says lines.now) }
     requires few_nets { length parts.nets.items ≤ 1024 }
@@ -27,13 +27,17 @@ pub(crate) fn wiring(alloc: Global, lines: &[Line], parts: Parts) -> Result<Net,
     })
 }
 
-fn pulled_nets(alloc: Global, lines: &[Line], nets: &[NetLine]) -> Result<Vec<NetLine>, AllocError>
+fn pulled_nets(
+    alloc: Global,
+    lines: &[BoardLine],
+    nets: &[NetLine],
+) -> Result<Vec<NetLine>, AllocError>
     ensures { IfOk result (λ pulled. pulled.items ≡ map (spec.with_pull (all_says lines.now)) nets.now) }
 {
     nets.iter().map(|l| with_pull(lines, l)).collect(alloc)
 }
 
-fn with_pull(lines: &[Line], line: &NetLine) -> NetLine
+fn with_pull(lines: &[BoardLine], line: &NetLine) -> NetLine
     ensures { result ≡ spec.with_pull (all_says lines.now) line.now }
 {
     NetLine {
@@ -44,7 +48,7 @@ fn with_pull(lines: &[Line], line: &NetLine) -> NetLine
 }
 
 /// The pull of a net.
-fn pull_of(lines: &[Line], net: &Name) -> Pull
+fn pull_of(lines: &[BoardLine], net: &Name) -> Pull
     ensures { result ≡ spec.pull_in (all_says lines.now) net.now }
 {
     for line in lines {
@@ -67,7 +71,7 @@ fn pull_said(said: &Said) -> Pull
 /// The pin lines of the chips, by chip and rising pin.
 fn wired_pins(
     alloc: Global,
-    lines: &[Line],
+    lines: &[BoardLine],
     nets: &[NetLine],
     chips: &[ChipLine],
 ) -> Result<Vec<PinLine>, AllocError>
@@ -86,7 +90,7 @@ fn wired_pins(
 /// Adds the pin lines of a chip.
 fn add_pins(
     wired: &mut Vec<PinLine>,
-    lines: &[Line],
+    lines: &[BoardLine],
     nets: &[NetLine],
     j: u32,
     chip: &ChipLine,
@@ -114,7 +118,7 @@ fn is_ordinary_pin(kind: Kind, pin: u8) -> bool
 }
 
 /// The net that a line puts the pin on.
-fn net_on_pin(lines: &[Line], nets: &[NetLine], chip: &Name, pin: u8) -> Option<u32>
+fn net_on_pin(lines: &[BoardLine], nets: &[NetLine], chip: &Name, pin: u8) -> Option<u32>
     requires few_nets { length nets.now ≤ 1024 }
     ensures { result ≡ spec.net_at (all_says lines.now) (spec.net_names nets.now) chip.now pin }
 {

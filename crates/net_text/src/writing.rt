@@ -5,6 +5,7 @@ ghost use Rattle.mig_base.specs.WrittenBoard.{written_line, written_net, net_lin
 
 use mig_base::{ChipLine, Net, NetLine, NoMemory, PinLine, Port, Pull, kind_text};
 use std::alloc::{AllocError, Global};
+use text_lines::write_line;
 
 /// The text of a board's wiring: the version, nets, pulls, chips, pins by chip and rising pin, and the end.
 /// The wiring is one that a text can give, and the text gives it back. Fails for want of memory alone.
@@ -21,19 +22,6 @@ pub fn write_net(alloc: Global, net: &Net) -> Result<Vec<u8>, NoMemory>
     write_pins(alloc, &mut text, net)?;
     write_line(&mut text, &["end"])?;
     Ok(text.into_bytes())
-}
-
-/// Writes a line of words with a space between each two.
-fn write_line(text: &mut String, words: &[&str]) -> Result<(), AllocError>
-    ensures { OnOk result (string_bytes text.new ≡ string_bytes text.old ++ written_line (map (λ w. w.now) words.now)) }
-{
-    for (i, word) in words.iter().enumerate() {
-        if i > 0 {
-            text.push_str(" ")?;
-        }
-        text.push_str(word)?;
-    }
-    text.push_str("\n")
 }
 
 /// The version of the text: 2 exactly where a net is pulled.

@@ -1,3 +1,7 @@
-pub mod LineSteps
-pub mod Judging
 pub mod Tables
+pub mod StepsRead
+pub mod WrittenSteps
+pub mod WrittenPorts
+pub mod WrittenLevels
+pub mod ReadBack
+pub mod GivenScripts

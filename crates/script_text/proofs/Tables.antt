@@ -1,16 +1,12 @@
 -- The ports, their slots, and what is judged by them.
-use Rattle.std.proofs.Common.{ℕ, suc, ◌≡◌, ◌+◌, ◌-◌, ◌<◌, ◌≤◌, Bool, true, false, cond, not, ◌&&◌, ◌||◌, eqb, List, [], ◌∷◌, ◌++◌, map, length, take, drop, get_or, Option, Some, None, Result, Ok, Err, refl, sym, ap, ◌∙◌, arith, append_assoc}
-use Rattle.std.specs.Prelude.{is_none, is_some, nat_le, codes}
+use Rattle.std.proofs.Common.{ℕ, ◌≡◌, ◌+◌, ◌<◌, ◌≤◌, Bool, true, false, cond, not, ◌&&◌, ◌||◌, eqb, List, [], ◌∷◌, ◌++◌, map, length, take, drop, get_or, Option, Some, None, Result, Ok, Err, refl, sym, ap, ◌∙◌, subst, arith, append_assoc}
+use Rattle.std.specs.Prelude.{is_none, nat_le, codes}
 use Rattle.std.specs.List.{list_any, list_all, filter_map, cons_option}
 use Rattle.std.specs.Option.{option_map}
-use Rattle.std.proofs.lemmas.List.{drop_more, drop_all, map_more, append-nil, length-map, length-append, length-take-le}
-use Rattle.std.proofs.lemmas.List.Folds.{list_any-append}
-use Rattle.std.proofs.lemmas.List.Elements.{filter_map-append}
+use Rattle.std.proofs.lemmas.List.{drop_more, drop_all, map_more, append-nil, length-map}
 use Rattle.std.specs.Str.{bytes_eq}
 use Rattle.mig_base.proofs.Distinct.{bytes-equal, same-is}
 use Rattle.mig_base.specs.Names.{is_name}
-use Rattle.script_text.specs.declared.lines.Line.{Line}
-use Rattle.script_text.proofs.Judging.{judged-more}
 use Rattle.mig_base.specs.declared.levels.Level.{Level}
 use Rattle.mig_base.specs.declared.nets.NetLine.{NetLine}
 use Rattle.mig_base.specs.BoardText.{place_named}
@@ -23,7 +19,7 @@ use Rattle.script_text.specs.declared.scripts.Script.{Script}
 use Rattle.script_text.specs.declared.scripts.ScriptError.{ScriptError}
 use Rattle.script_text.specs.declared.scripts.ScriptError.TheVariants.{Line as BadLine, PortUnknown, PortTwice, PortLeft, LevelBad, StepsOver, NoEnd, Memory}
 use Rattle.script_text.specs.ScriptText.{port_on, ports_from, refuse, left_refusal, level_at, level_for, most_steps, levels_refusal, line_refusal, ends, is_end, levels_on, or_no_names, names_on, inputs_of, inputs_on, is_head, names_refusal, script_of_lines}
-use Rattle.script_text.specs.Statements.{UnlessMemory, text_line, IsTable, slot_for, slot_level, slots_refusal, slot_inputs, slot_inputs_on, after_steps, rest_refusal, steps_said}
+use Rattle.script_text.specs.Statements.{UnlessMemory, IsTable, slot_for, slot_level, slots_refusal, slot_inputs, slot_inputs_on, rest_refusal, steps_said}
 
 -- one more net
 pub ports-more : (nets : List NetLine) (k : ℕ) (l : NetLine) (o : Option HandedPort) (known after all : List HandedPort) → k < length nets → l ≡ get_or nets k l → o ≡ port_on (k + 2) l → after ≡ known ++ cons_option o [] →
@@ -154,7 +150,6 @@ abbrev pub wrapped : Result (List Inputs) ScriptError → Result Script ScriptEr
 wrapped (Ok steps) = Ok (record { steps = steps })
 wrapped (Err e) = Err e
 
--- the whole script by its first two lines
 -- a line of one form has no other
 pub head-no-end : (ws : List (List ℕ)) → is_head ws ≡ true → is_end ws ≡ false
 head-no-end [] h = refl
@@ -175,6 +170,7 @@ step-no-end [] h = cc
 step-no-end (w ∷ []) h = ap (λ (v : List ℕ). levels_on (v ∷ [])) (same-is bytes-equal w (codes "end") h)
 step-no-end (w ∷ v ∷ ws) h = cc
 
+-- the whole script by its first two lines
 abbrev whole : ℕ → Bool → Option ScriptError → Option ScriptError → Bool → List Inputs → Result Script ScriptError
 whole n first second rest ended steps = unless (or_else (or_else (refuse (not first) (BadLine n)) (or_else second rest)) (refuse (not ended) NoEnd)) (Ok (record { steps = steps }))
 
@@ -212,58 +208,9 @@ unless-more (StepsOver n) P Q f p = f p
 unless-more NoEnd P Q f p = f p
 unless-more Memory P Q f p = tt
 
--- one more line behind the `ports` line
-pub record IsRead (slots : List Slot) (lines : List Line) (i : ℕ) (over : Bool) (given : List Inputs) : Type 0 where
-  pub passed : first_refusal (rest_refusal slots) (map text_line (take i lines)) (map text_line (drop i lines)) ≡ first_refusal (rest_refusal slots) [] (map text_line lines)
-  pub ended : over ≡ list_any ends (map text_line (take i lines))
-  pub steps : given ≡ filter_map (slot_inputs_on slots) (map text_line (take i lines))
-  pub count : over ≡ false → length given ≡ i
-
-none-now : (o : Option Inputs) (now : Bool) → is_some o ≡ not now → is_none o ≡ now
-none-now None true h = refl
-none-now None false h = cc
-none-now (Some x) true h = cc
-none-now (Some x) false h = refl
-
-pub read-more : (slots : List Slot) (lines : List Line) (i : ℕ) (d : Line) (ended now : Bool) (count : ℕ) (inputs : Option Inputs) (steps after : List Inputs) → i < length lines → ended ≡ false → count ≡ length steps →
-    after_steps slots count (text_line (get_or lines i d)) ≡ None → slot_inputs_on slots (text_line (get_or lines i d)) ≡ inputs → is_none inputs ≡ ends (text_line (get_or lines i d)) → is_some inputs ≡ not now →
-    after ≡ steps ++ cons_option inputs [] → IsRead slots lines i ended steps → IsRead slots lines (i + 1) now after
-read-more slots lines i d ended now count inputs steps after lt going len passes gives last next kept h = record {
-  passed = judged-more text_line (rest_refusal slots) lines i d _ lt
-      (ap (λ (t : Bool). or_else (refuse t (BadLine l.n)) (after_steps slots (length done) l)) none ∙ ap (λ (k : ℕ). after_steps slots k l) (long ∙ sym (h.count going) ∙ sym len) ∙ passes) h.passed;
-  ended = sym (none-now inputs now next) ∙ last ∙ sym (or-false (ends l)) ∙ ap (λ (t : Bool). t || (ends l || false)) (sym none) ∙ sym (list_any-append ends done (l ∷ [])) ∙ ap (list_any ends) (sym (map_more text_line lines i d lt));
-  steps = kept ∙ ap (λ (o : Option Inputs). steps ++ cons_option o []) (sym gives) ∙ ap (λ (is : List Inputs). is ++ cons_option (slot_inputs_on slots l) []) h.steps
-      ∙ sym (filter_map-append (slot_inputs_on slots) done (l ∷ [])) ∙ ap (filter_map (slot_inputs_on slots)) (sym (map_more text_line lines i d lt));
-  count = λ e. ap length kept ∙ length-append steps (cons_option inputs []) ∙ one inputs (next ∙ ap not e) (h.count going);
-}
-  where
-    l : TextLine
-    l = text_line (get_or lines i d)
-
-    done : List TextLine
-    done = map text_line (take i lines)
-
-    none : list_any ends done ≡ false
-    none = sym h.ended ∙ going
-
-    long : length done ≡ i
-    long = length-map (take i lines) text_line ∙ length-take-le i lines (omega arith)
-
-    or-false : (t : Bool) → (t || false) ≡ t
-    or-false true = refl
-    or-false false = refl
-
-    one : (o : Option Inputs) → is_some o ≡ true → length steps ≡ i → length steps + length (cons_option o []) ≡ i + 1
-    one None e k = cc
-    one (Some x) e k = omega arith
-
--- a list that isn't empty
-pub first-line : (ls : List Line) (d : Line) → 1 ≤ length ls → map text_line ls ≡ text_line (get_or ls 0 d) ∷ map text_line (take (length ls - 1) (drop 1 ls))
-first-line [] d h = absurd (omega arith)
-first-line (l ∷ ls) d h =
-    let n : suc (length ls) - 1 ≡ length ls = omega arith in
-    ap (λ (xs : List Line). text_line l ∷ map text_line xs) (sym (all ls) ∙ ap (λ (k : ℕ). take k ls) (sym n))
-  where
-    all : (xs : List Line) → take (length xs) xs ≡ xs
-    all [] = refl
-    all (x ∷ xs) = ap (λ (ys : List Line). x ∷ ys) (all xs)
+-- all lines, by what those behind the first two say
+pub lines-said : (ports : List HandedPort) (made slots : List Slot) (all left rest : List TextLine) (head named : TextLine) → all ≡ head ∷ left → left ≡ named ∷ rest → slots ≡ made → is_head head.words ≡ true →
+    names_refusal ports named.n (names_on named.words) ≡ None → IsTable (or_no_names (names_on named.words)) ports made → script_of_lines ports all ≡ wrapped (steps_said slots rest)
+lines-said ports made slots all left rest head named first second same h k table =
+    ap (script_of_lines ports) (first ∙ ap (λ (ls : List TextLine). head ∷ ls) second)
+    ∙ script-by ports slots head named rest h k (subst (IsTable (or_no_names (names_on named.words)) ports) (sym same) table)

@@ -1,2 +1,3 @@
 pub mod ScriptText
 pub mod Statements
+pub mod WrittenScript

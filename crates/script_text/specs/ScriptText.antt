@@ -1,4 +1,4 @@
--- The script that a script text says, and the text that is written for a script.
+-- The script that a script text says.
 use Rattle.std.specs.Prelude.{ℕ, ◌+◌, Bool, true, false, not, ◌&&◌, ◌||◌, List, [], ◌∷◌, length, if◌then◌else◌, ◌==◌, nat_le, Option, Some, None, is_none, Result, Ok, codes, slice_get}
 use Rattle.std.specs.List.{list_any, list_all, filter_map, cons_option}
 use Rattle.std.specs.Str.{bytes_eq}

@@ -1,26 +1,19 @@
 -- The lines of a script text as the reader holds them, and the table of its ports.
-use Rattle.std.specs.Prelude.{ℕ, ◌≡◌, Bool, true, not, List, [], length, map, if◌then◌else◌, ◌==◌, nat_le, Option, Some, None, is_none, slice_get, Result, Ok, Err}
+use Rattle.std.specs.Prelude.{ℕ, ◌≡◌, true, not, List, [], ◌∷◌, length, map, if◌then◌else◌, ◌==◌, nat_le, Option, Some, None, is_none, slice_get, Result, Ok, Err}
 use Rattle.std.specs.List.{list_any, filter_map}
 use Rattle.std.specs.Option.{option_map}
 use Rattle.mig_base.specs.First.{or_else, first_refusal, unless}
 use Rattle.mig_base.specs.BoardText.{place_named}
-use Rattle.mig_base.specs.Lines.{TextLine, without_cr, words_of}
+use Rattle.mig_base.specs.Lines.{TextLine, words_of}
 use Rattle.mig_base.specs.declared.levels.Level.{Level}
 use Rattle.script_text.specs.declared.handed.HandedPort.{HandedPort}
-use Rattle.script_text.specs.declared.lines.Line.{Line}
+use Rattle.text_lines.specs.declared.lines.Line.{Line}
+use Rattle.text_lines.specs.Statements.{text_line}
 use Rattle.script_text.specs.declared.naming.Slot.{Slot}
 use Rattle.script_text.specs.declared.scripts.Inputs.{Inputs}
 use Rattle.script_text.specs.declared.scripts.ScriptError.{ScriptError}
 use Rattle.script_text.specs.declared.scripts.ScriptError.TheVariants.{Memory, Line as BadLine, LevelBad, StepsOver, NoEnd}
 use Rattle.script_text.specs.ScriptText.{is_head, is_end, names_on, levels_on, or_no_names, refuse, names_refusal, left_refusal, level_by, most_steps, ends}
-
--- a line by its words
-abbrev pub text_line : Line → TextLine
-text_line l = record { n = l.n; words = words_of l.text.now }
-
--- a line that LF ends or doesn't
-abbrev pub ended_part : Bool → List ℕ → List ℕ
-ended_part by_lf part = if by_lf then without_cr part else part
 
 -- where memory doesn't run out
 abbrev pub UnlessMemory : ScriptError → Type 0 → Type 0
@@ -85,11 +78,18 @@ abbrev pub steps_said : List Slot → List TextLine → Result (List Inputs) Scr
 steps_said slots lines =
     unless (or_else (first_refusal (rest_refusal slots) [] lines) (refuse (not (list_any ends lines)) NoEnd)) (Ok (filter_map (slot_inputs_on slots) lines))
 
-abbrev pub Steps : {V : Type 0} → (V → List Inputs) → List Slot → List Line → Result V ScriptError → Type 0
-Steps items slots lines (Ok steps) = steps_said slots (map text_line lines) ≡ Ok (items steps)
-Steps items slots lines (Err e) = UnlessMemory e (steps_said slots (map text_line lines) ≡ Err e)
+-- the steps of the lines that follow the `ports` line
+abbrev pub Steps : {V : Type 0} → (V → List Inputs) → List Slot → List TextLine → Result V ScriptError → Type 0
+Steps items slots lines (Ok steps) = steps_said slots lines ≡ Ok (items steps)
+Steps items slots lines (Err e) = UnlessMemory e (steps_said slots lines ≡ Err e)
 
--- the inputs of a line behind so many steps: none exactly where it is the end
+-- no line is left, or the first one is refused
+abbrev pub EndsHere : List TextLine → Result (Unit {0}) ScriptError → Type 0
+EndsHere lines (Ok _) = lines ≡ []
+EndsHere [] (Err e) = ⊥
+EndsHere (l ∷ ls) (Err e) = e ≡ BadLine l.n
+
+-- the inputs of a line behind so many steps; there are none exactly where it is the end
 abbrev pub StepGives : List Slot → ℕ → Line → Result (Option Inputs) ScriptError → Type 0
 StepGives slots count l (Ok inputs) =
     (after_steps slots count (text_line l) ≡ None) × (slot_inputs_on slots (text_line l) ≡ inputs) × (is_none inputs ≡ ends (text_line l))

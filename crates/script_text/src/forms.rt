@@ -1,18 +1,11 @@
 ghost use Rattle.std.specs.Prelude.{◌≡◌, map};
 ghost use Rattle.std.specs.List.{list_all};
-ghost use Rattle.std.specs.Str.{bytes_eq};
 ghost use Rattle.std.specs.Option.{option_map};
 ghost use Rattle.mig_base.specs.Names.{is_name as name_form};
 ghost use Rattle.script_text.specs.ScriptText as spec;
 
 use mig_base::Name;
-
-/// Whether a word is this text.
-pub(crate) fn is(word: &[u8], text: &[u8]) -> bool
-    ensures { result ≡ bytes_eq word.now text.now }
-{
-    word == text
-}
+use text_lines::is;
 
 /// Whether these are the words of the first line.
 pub(crate) fn is_head(words: &[&[u8]]) -> bool

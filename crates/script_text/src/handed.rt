@@ -1,10 +1,10 @@
-ghost use Rattle.std.specs.Prelude.{◌≡◌, ◌≤◌, ◌+◌, length, IfOk};
+ghost use Rattle.std.specs.Prelude.{◌≡◌, IfOk};
 ghost use Rattle.mig_base.specs.Boards.{is_handed as handed_by};
 ghost use Rattle.script_text.specs.ScriptText.{port_on, ports_of};
 
 use crate::keeping::keep;
-use mig_base::{Name, Net, NetLine, Port};
-use std::alloc::{AllocError, Global};
+use mig_base::{Name, Net, NetLine, NoMemory, Port};
+use std::alloc::Global;
 
 /// An Input or Both port: its name, its direction, and the number of its net.
 #[derive(Clone, Copy)]
@@ -14,15 +14,17 @@ pub(crate) struct HandedPort {
     pub net: u32,
 }
 
-/// The Input and Both ports of a wiring, in board order.
-pub(crate) fn handed_ports(alloc: Global, net: &Net) -> Result<Vec<HandedPort>, AllocError>
-    requires { length net.now.nets ≤ 1024 }
+/// The Input and Both ports of a wiring, in board order. A net whose number is no `u32` counts as want of memory.
+pub(crate) fn handed_ports(alloc: Global, net: &Net) -> Result<Vec<HandedPort>, NoMemory>
     ensures { IfOk result (λ ports. ports.items ≡ ports_of net.now) }
 {
     let mut ports = Vec::new(alloc);
     let nets = net.nets.items();
     for (k, line) in nets.iter().enumerate() {
-        keep(&mut ports, handed_port(k as u32 + 2, line))?;
+        let Ok(number) = u32::try_from(k + 2) else {
+            return Err(NoMemory);
+        };
+        keep(&mut ports, handed_port(number, line))?;
     }
     Ok(ports)
 }
@@ -39,7 +41,7 @@ fn handed_port(net: u32, line: &NetLine) -> Option<HandedPort>
 }
 
 /// Whether a port of this direction is handed a level.
-fn is_handed(port: Port) -> bool
+pub(crate) fn is_handed(port: Port) -> bool
     ensures { result ≡ handed_by port }
 {
     match port {

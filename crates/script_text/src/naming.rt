@@ -6,13 +6,13 @@ ghost use Rattle.mig_base.specs.First.{first_refusal};
 ghost use Rattle.script_text.specs.ScriptText as spec;
 ghost use Rattle.script_text.specs.Statements.{Names, Tables};
 
-use crate::forms::{is, names_on};
+use crate::forms::names_on;
 use crate::handed::HandedPort;
 use crate::keeping::keep;
-use crate::lines::{Line, words};
 use crate::scripts::ScriptError;
 use mig_base::Port;
 use std::alloc::Global;
+use text_lines::{Line, is, words};
 
 /// Where the character of a port stands on a `step` line, and the direction of the port.
 #[derive(Clone, Copy)]
@@ -54,7 +54,7 @@ fn names_refusal(ports: &[HandedPort], n: u32, names: &[&[u8]]) -> Option<Script
 }
 
 /// What is wrong with a name behind these.
-#[tactic(auto, using(crate::proofs::Judging::any_now))]
+#[tactic(auto, using(text_lines::proofs::Judging::any_now))]
 fn name_refusal(ports: &[HandedPort], n: u32, before: &[&[u8]], name: &[u8]) -> Option<ScriptError>
     ensures { result ≡ spec.name_refusal ports.now n (map (λ w. w.now) before.now) name.now }
 {

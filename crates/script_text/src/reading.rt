@@ -1,76 +1,48 @@
-ghost use Rattle.std.specs.Prelude.{◌≡◌, ◌<◌, ◌≤◌, ◌^◌, ◌∷◌, length, map, Some, true};
-ghost use Rattle.mig_base.specs.Lines.{TextLine};
+ghost use Rattle.std.specs.Prelude.{◌≡◌, ◌<◌, ◌^◌, length, Some};
 ghost use Rattle.script_text.specs.ScriptText as spec;
-ghost use Rattle.script_text.specs.Statements.{Answers, Heads, Steps, StepGives, slots_refusal, text_line};
+ghost use Rattle.script_text.specs.Statements.{Answers, Heads, Steps, StepGives, EndsHere, slots_refusal};
 
 use crate::forms::{is_end, is_head, levels_on};
 use crate::handed::{HandedPort, handed_ports};
-use crate::keeping::keep;
 use crate::levels::{any_bad, inputs};
-use crate::lines::{Line, counted_lines, words};
 use crate::naming::{Slot, slots_on};
 use crate::scripts::{Inputs, MOST_STEPS, Script, ScriptError};
 use mig_base::{Items, Net};
 use std::alloc::Global;
+use text_lines::{Line, Lines, words};
 
 /// The script that a text says for the Input and Both ports of a wiring, or the first refusal. Each step has the
 /// levels in board order, whatever order the text names the ports in.
+///
+/// # Errors
+/// The refusal of the first line that fails, with its number from 1; `PortLeft` with the number of the first port that
+/// the `ports` line doesn't name; `NoEnd` where no line fails and there is no `end`; `Memory`.
 pub fn read_script(alloc: Global, bytes: &[u8], net: &Net) -> Result<Script, ScriptError>
     requires bytes { length bytes.now < 2 ^ 32 }
-    requires few_nets { length net.now.nets ≤ 1024 }
     ensures { Answers (spec.script_of_text (spec.ports_of net.now) bytes.now) result }
 {
     let Ok(ports) = handed_ports(alloc, net) else {
         return Err(ScriptError::Memory);
     };
-    let Ok(lines) = counted_lines(alloc, bytes) else {
-        return Err(ScriptError::Memory);
-    };
-    script_on(alloc, ports.as_slice(), lines.as_slice())
+    script_on(alloc, ports.as_slice(), Lines::new(bytes))
 }
 
 /// The script that lines say.
-fn script_on(alloc: Global, ports: &[HandedPort], lines: &[Line]) -> Result<Script, ScriptError>
-    ensures { Answers (spec.script_of_lines ports.now (map text_line lines.now)) result }
+fn script_on(alloc: Global, ports: &[HandedPort], mut lines: Lines) -> Result<Script, ScriptError>
+    ensures { Answers (spec.script_of_lines ports.now lines.entry) result }
 {
-    match lines {
-        [head, rest @ ..] => script_from_head(alloc, ports, *head, rest),
-        [] => Err(ScriptError::NoEnd),
-    }
-}
-
-/// The script of a first line and the others.
-fn script_from_head(
-    alloc: Global,
-    ports: &[HandedPort],
-    head: Line,
-    rest: &[Line],
-) -> Result<Script, ScriptError>
-    ensures { Answers (spec.script_of_lines ports.now (text_line head.entry ∷ map text_line rest.now)) result }
-{
+    let Some(head) = lines.next_line() else {
+        return Err(ScriptError::NoEnd);
+    };
     read_head(alloc, head)?;
-    match rest {
-        [named, steps @ ..] => script_from_ports(alloc, ports, *named, steps),
-        [] => Err(ScriptError::NoEnd),
-    }
-}
-
-/// The script of a second line and the others, behind any head.
-fn script_from_ports(
-    alloc: Global,
-    ports: &[HandedPort],
-    named: Line,
-    steps: &[Line],
-) -> Result<Script, ScriptError>
-    ensures { (head : TextLine) → spec.is_head head.words ≡ true → Answers (spec.script_of_lines ports.now (head ∷ text_line named.entry ∷ map text_line steps.now)) result }
-{
+    let Some(named) = lines.next_line() else {
+        return Err(ScriptError::NoEnd);
+    };
     let slots = slots_on(alloc, ports, named)?;
-    match read_steps(alloc, slots.as_slice(), steps) {
-        Ok(steps) => Ok(Script {
-            steps: Items::new(steps),
-        }),
-        Err(error) => Err(error),
-    }
+    let steps = read_steps(alloc, slots.as_slice(), lines)?;
+    Ok(Script {
+        steps: Items::new(steps),
+    })
 }
 
 /// Refuses a first line that is no head.
@@ -87,26 +59,34 @@ fn read_head(alloc: Global, line: Line) -> Result<(), ScriptError>
     }
 }
 
-/// The steps of the lines up to the end.
-fn read_steps(alloc: Global, slots: &[Slot], lines: &[Line]) -> Result<Vec<Inputs>, ScriptError>
-    ensures { Steps (λ steps. steps.items) slots.now lines.now result }
+/// The steps of the lines up to the end, behind which no line stands.
+fn read_steps(alloc: Global, slots: &[Slot], mut lines: Lines) -> Result<Vec<Inputs>, ScriptError>
+    ensures { Steps (λ steps. steps.items) slots.now lines.entry result }
 {
     let mut steps = Vec::new(alloc);
-    let mut ended = false;
-    for line in lines {
-        if ended {
-            return Err(ScriptError::Line { n: line.n });
-        }
-        let inputs = read_step(alloc, slots, steps.len(), *line)?;
-        ended = inputs.is_none();
-        if keep(&mut steps, inputs).is_err() {
-            return Err(ScriptError::Memory);
+    while let Some(line) = lines.next_line() {
+        match read_step(alloc, slots, steps.len(), line)? {
+            Some(inputs) => {
+                if steps.push(inputs).is_err() {
+                    return Err(ScriptError::Memory);
+                }
+            }
+            None => {
+                refuse_more(lines)?;
+                return Ok(steps);
+            }
         }
     }
-    if ended {
-        Ok(steps)
-    } else {
-        Err(ScriptError::NoEnd)
+    Err(ScriptError::NoEnd)
+}
+
+/// Refuses a line behind the end.
+fn refuse_more(mut lines: Lines) -> Result<(), ScriptError>
+    ensures { EndsHere lines.entry result }
+{
+    match lines.next_line() {
+        Some(line) => Err(ScriptError::Line { n: line.n }),
+        None => Ok(()),
     }
 }
 

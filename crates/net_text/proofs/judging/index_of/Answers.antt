@@ -3,7 +3,7 @@ use Rattle.std.specs.Str.{bytes_eq}
 use Rattle.std.proofs.lemmas.List.{get_or-map, length-map}
 use Rattle.mig_base.specs.declared.nets.NetLine.{NetLine}
 use Rattle.mig_base.specs.BoardText.{place_named}
-use Rattle.net_text.proofs.Lookups.{index-zero, place-here, place-next, place-past}
+use Rattle.text_lines.proofs.Places.{index-zero, place-here, place-next, place-past}
 use Rattle.net_text.proofs.judging.index_of.Goals as goal
 
 pub loop-k-init : goal.loop-k-init

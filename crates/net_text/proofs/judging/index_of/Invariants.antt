@@ -1,6 +1,6 @@
 use Rattle.std.proofs.Common.{◌≡◌, drop, map}
 use Rattle.mig_base.specs.BoardText.{place_named}
-use Rattle.net_text.proofs.Lookups.{from_index}
+use Rattle.text_lines.proofs.Places.{from_index}
 use Rattle.net_text.proofs.judging.index_of.Given as goal
 
 abbrev pub invariant-loop-k : goal.invariant-loop-k

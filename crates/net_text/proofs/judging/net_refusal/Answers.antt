@@ -2,7 +2,7 @@ use Rattle.std.proofs.Common.{ap, ◌∙◌, sym, length, false}
 use Rattle.std.specs.Prelude.{is_some}
 use Rattle.std.proofs.lemmas.Bool.{lt-leb}
 use Rattle.mig_base.specs.BoardText.{net_names}
-use Rattle.net_text.proofs.Lookups.{known-any}
+use Rattle.text_lines.proofs.Places.{known-any}
 use Rattle.net_text.proofs.Refusals.{net-refused}
 use Rattle.net_text.proofs.judging.net_refusal.Goals as goal
 

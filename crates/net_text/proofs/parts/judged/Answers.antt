@@ -1,5 +1,6 @@
 use Rattle.std.proofs.Common.{sym}
-use Rattle.net_text.proofs.Wholes.{where-ok, judge-step, nets-step, chips-step}
+use Rattle.text_lines.proofs.Judging.{where-ok}
+use Rattle.net_text.proofs.Wholes.{judge-step, nets-step, chips-step}
 use Rattle.net_text.proofs.parts.judged.Goals as goal
 
 pub loop-i-preserved : goal.loop-i-preserved

@@ -1,6 +1,6 @@
 use Rattle.std.proofs.Common.{◌∙◌, sym}
 use Rattle.mig_base.specs.Names.{is_name}
-use Rattle.script_text.proofs.Judging.{all_now}
+use Rattle.text_lines.proofs.Judging.{all_now}
 use Rattle.script_text.proofs.forms.are_names.Goals as goal
 
 pub returns : goal.returns

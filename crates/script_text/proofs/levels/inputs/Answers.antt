@@ -1,5 +1,5 @@
 use Rattle.script_text.specs.Statements.{slot_level}
-use Rattle.script_text.proofs.Judging.{kept-more}
+use Rattle.text_lines.proofs.Judging.{kept-more}
 use Rattle.script_text.proofs.levels.inputs.Goals as goal
 
 pub loop-slot-preserved : goal.loop-slot-preserved

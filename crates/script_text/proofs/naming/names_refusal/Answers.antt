@@ -1,6 +1,6 @@
 use Rattle.std.proofs.Common.{◌∙◌, sym, [], List, ℕ, Bor}
 use Rattle.script_text.specs.ScriptText.{name_refusal}
-use Rattle.script_text.proofs.Judging.{judged-more, judged-here, judged-all}
+use Rattle.text_lines.proofs.Judging.{judged-more, judged-here, judged-all}
 use Rattle.script_text.proofs.naming.names_refusal.Goals as goal
 
 pub loop-i-preserved : goal.loop-i-preserved

@@ -1,12 +1,12 @@
-use Rattle.std.proofs.Common.{◌≡◌, ◌∙◌, sym, ap, List, ℕ, Some}
+use Rattle.std.proofs.Common.{◌≡◌, ◌∙◌, sym, ap, map, List, ℕ, Some}
 use Rattle.mig_base.specs.BoardText.{place_named}
-use Rattle.script_text.proofs.Judging.{where-ok, texts}
+use Rattle.text_lines.proofs.Judging.{where-ok}
 use Rattle.script_text.proofs.Tables.{left-next, table-next}
 use Rattle.script_text.proofs.naming.slots.Goals as goal
 
 pub loop-port-preserved : goal.loop-port-preserved
 loop-port-preserved c =
-    let names = texts c.args.names.now in
+    let names = map (λ w. w.now) c.args.names.now in
     let placed : place_named c.port-item.result.name names ≡ Some c.in-Some.place =
     ap (λ (n : List ℕ). place_named n names) (sym c.bytes.ensures) ∙ sym c.place.ensures ∙ c.in-Some.is in
     record {

@@ -1,0 +1,5 @@
+pub mod LineSteps
+pub mod DigitSteps
+pub mod WrittenSteps
+pub mod Judging
+pub mod Places
