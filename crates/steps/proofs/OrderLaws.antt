@@ -18,7 +18,7 @@ use Rattle.mig_base.specs.Reads.{gives_reads, driver_reads, node_reads, reads_of
 use Rattle.mig_base.specs.Accepted.{Among}
 use Rattle.settle.specs.Settled.{IsSettled, drive_level, visible_level, visible_levels, wire_level, level_by}
 use Rattle.settle.proofs.Unique.{Agree, all_left, all_right, all_mono, level_at-map, drive-agree, drive_at-agree, visible-agree, every, map-agree, visible_all-agree}
-use Rattle.steps.specs.Order.{IsNode, GoesOn, IsOrder}
+use Rattle.ranks.specs.Order.{IsNode, GoesOn, IsOrder}
 use Rattle.steps.specs.Rules.{drive_of, net_level, new_level, placed, with_drives, HasLengths}
 
 -- where all that a node reads agrees, it is made the same
@@ -52,11 +52,15 @@ placed-lengths : (c : Circuit) (l : Levels) (v : Read) (x : Level) → HasLength
 placed-lengths c l (OfNet n) x long = record { nets = length-set l.nets n x ∙ long.nets; drives = long.drives; visible = long.visible }
 placed-lengths c l (OfRegister k) x long = record { nets = long.nets; drives = long.drives; visible = length-set l.visible k x ∙ long.visible }
 
--- the nodes that are done are what the others make of them, and read nothing else
+-- a node of the board that is read is done
+abbrev Done : Circuit → List Read → Read → Type 0
+Done c done w = IsNode c w → Among w done
+
+-- the nodes that are done are what the others make of them, and read no other nodes
 pub record Progress (c : Circuit) (stored inputs : List Level) (rest : List Read) (l : Levels) : Type 0 where
   pub done : List Read
   pub fits : (v : Read) → Among v done → node_level l v ≡ new_level c stored inputs l v
-  pub closed : (v : Read) → Among v done → AllByRecursion (λ w. Among w done) (node_reads c v)
+  pub closed : (v : Read) → Among v done → AllByRecursion (Done c done) (node_reads c v)
   pub behind : GoesOn c done rest
   pub all : (v : Read) → IsNode c v → Among v done ⊎ Among v rest
   pub nodes : AllByRecursion (IsNode c) rest
@@ -74,10 +78,10 @@ progress-start c stored inputs order l is long = record {
 }
 
 -- a node that is done stays as it is where a new one is placed
-reads-agree : (c : Circuit) (l : Levels) (v : Read) (x : Level) (done : List Read) → (Among v done → ⊥) → (reads : List Read) →
-    AllByRecursion (λ w. Among w done) reads → AllByRecursion (Agree l (placed l v x)) reads
-reads-agree c l v x done new reads h =
-    all_mono (λ w. Among w done) (Agree l (placed l v x)) (λ w a. sym (placed-other l v x w (λ e. new (subst (λ (u : Read). Among u done) e a)))) reads h
+reads-agree : (c : Circuit) (l : Levels) (v : Read) (x : Level) (done : List Read) → IsNode c v → (Among v done → ⊥) → (reads : List Read) →
+    AllByRecursion (Done c done) reads → AllByRecursion (Agree l (placed l v x)) reads
+reads-agree c l v x done node new reads h =
+    all_mono (Done c done) (Agree l (placed l v x)) (λ w a. sym (placed-other l v x w (λ e. new (subst (Done c done) e a node)))) reads h
 
 pub progress-next : (c : Circuit) (stored inputs : List Level) (v : Read) (vs : List Read) (l : Levels) →
     Progress c stored inputs (v ∷ vs) l → Progress c stored inputs vs (placed l v (new_level c stored inputs l v))
@@ -94,8 +98,8 @@ progress-next c stored inputs v vs l p = record {
     m : Levels
     m = placed l v (new_level c stored inputs l v)
 
-    same : (u : Read) → AllByRecursion (λ w. Among w p.done) (node_reads c u) → new_level c stored inputs l u ≡ new_level c stored inputs (placed l v (new_level c stored inputs l v)) u
-    same u h = rule-agree c stored inputs l (placed l v (new_level c stored inputs l v)) u (reads-agree c l v (new_level c stored inputs l v) p.done p.behind.0 (node_reads c u) h)
+    same : (u : Read) → AllByRecursion (Done c p.done) (node_reads c u) → new_level c stored inputs l u ≡ new_level c stored inputs (placed l v (new_level c stored inputs l v)) u
+    same u h = rule-agree c stored inputs l (placed l v (new_level c stored inputs l v)) u (reads-agree c l v (new_level c stored inputs l v) p.done p.nodes.0 p.behind.0 (node_reads c u) h)
 
     fits : (u : Read) → Among u (v ∷ p.done) → node_level (placed l v (new_level c stored inputs l v)) u ≡ new_level c stored inputs (placed l v (new_level c stored inputs l v)) u
     fits u (inl e) = subst (λ (w : Read). node_level (placed l v (new_level c stored inputs l v)) w ≡ new_level c stored inputs (placed l v (new_level c stored inputs l v)) w) (sym e)
@@ -104,11 +108,11 @@ progress-next c stored inputs v vs l p = record {
         placed-other l v (new_level c stored inputs l v) u (λ e. p.behind.0 (subst (λ (w : Read). Among w p.done) e a))
         ∙ p.fits u a ∙ same u (p.closed u a)
 
-    wider : (reads : List Read) → AllByRecursion (λ w. Among w p.done) reads → AllByRecursion (λ w. Among w (v ∷ p.done)) reads
-    wider reads h = all_mono (λ w. Among w p.done) (λ w. Among w (v ∷ p.done)) (λ w a. inr a) reads h
+    wider : (reads : List Read) → AllByRecursion (Done c p.done) reads → AllByRecursion (Done c (v ∷ p.done)) reads
+    wider reads h = all_mono (Done c p.done) (Done c (v ∷ p.done)) (λ w a node. inr (a node)) reads h
 
-    closed : (u : Read) → Among u (v ∷ p.done) → AllByRecursion (λ w. Among w (v ∷ p.done)) (node_reads c u)
-    closed u (inl e) = subst (λ (w : Read). AllByRecursion (λ z. Among z (v ∷ p.done)) (node_reads c w)) (sym e) (wider (node_reads c v) p.behind.1)
+    closed : (u : Read) → Among u (v ∷ p.done) → AllByRecursion (Done c (v ∷ p.done)) (node_reads c u)
+    closed u (inl e) = subst (λ (w : Read). AllByRecursion (Done c (v ∷ p.done)) (node_reads c w)) (sym e) (wider (node_reads c v) p.behind.1)
     closed u (inr a) = wider (node_reads c u) (p.closed u a)
 
     moved : (u : Read) → Among u p.done ⊎ Among u (v ∷ vs) → Among u (v ∷ p.done) ⊎ Among u vs

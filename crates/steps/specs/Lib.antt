@@ -1,4 +1,3 @@
-pub mod Order
 pub mod Rules
 pub mod Edges
 pub mod Configs

@@ -2,7 +2,7 @@ ghost use Rattle.std.specs.Prelude.{◌≡◌, ◌+◌, length, true, Some, None
 ghost use Rattle.mig_base.specs.declared.levels.Level.TheVariants.{Zero as Low, X as Unknown};
 ghost use Rattle.settle.specs.Settled.{IsSettled};
 ghost use Rattle.settle.specs.Runs.{IsStep, power_up as stored_at_start, shown_levels};
-ghost use Rattle.steps.specs.Order.{IsOrder};
+ghost use Rattle.ranks.specs.Order.{IsOrder};
 ghost use Rattle.steps.specs.Configs.{IsMadeFor, handed_count as count_of_handed, last_of, is_handed as takes_level};
 
 use crate::edges::store_next;

@@ -1,7 +1,7 @@
 ghost use Rattle.std.specs.Prelude.{◌≡◌, ℕ, length, map, true, IfOk};
 ghost use Rattle.std.specs.List.{All};
 ghost use Rattle.settle.specs.Runs.{IsRun, shown_levels};
-ghost use Rattle.steps.specs.Order.{IsOrder};
+ghost use Rattle.ranks.specs.Order.{IsOrder};
 ghost use Rattle.steps.specs.Configs.{IsMadeFor, handed_count};
 
 use crate::config::{Config, filled, power_up, shows_into, step};

@@ -1,6 +1,6 @@
 ghost use Rattle.std.specs.Prelude.{◌≡◌, ◌<◌, length, map};
 ghost use Rattle.settle.specs.Settled.{IsSettled, drive_level as level_driven};
-ghost use Rattle.steps.specs.Order.{IsNode, IsOrder};
+ghost use Rattle.ranks.specs.Order.{IsNode, IsOrder};
 ghost use Rattle.steps.specs.Rules.{HasLengths, new_level, placed, with_drives};
 
 use crate::nets::net_level;

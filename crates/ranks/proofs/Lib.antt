@@ -1,0 +1,11 @@
+pub mod RankLaws
+pub mod Amongs
+pub mod OrderOfRanks
+pub mod Putting
+pub mod Graphing
+pub mod Marking
+pub mod RankingLaws
+pub mod Reaching
+pub mod WayLaws
+pub mod LoopLaws
+pub mod Finishing
