@@ -1,11 +1,10 @@
 -- Steps one behind another.
-use Rattle.std.proofs.Common.{ℕ, ◌≡◌, ◌<◌, ◌≤◌, ◌+◌, ◌-◌, ◌^◌, Bool, List, Option, Some, None, Result, Ok, Err, refl, sym, ap, ◌∙◌, subst, arith}
-use Rattle.std.specs.Prelude.{IfSome, IfErr, min}
+use Rattle.std.proofs.Common.{ℕ, ◌≡◌, ◌≤◌, List, Option, Some, None, Result, Ok, Err, ap, ◌∙◌, subst, arith}
+use Rattle.std.specs.Prelude.{IfSome, IfErr}
 use Rattle.mig_io.specs.Counts.{Counts, NoneFell, Rose}
 use Rattle.mig_io.specs.Holding.{Held}
-use Rattle.palmig_top.specs.declared.exit.Exit.{Exit}
-use Rattle.palmig_top.specs.declared.exit.Exit.TheVariants.{Done, Usage, Refused, Missing, ReadFault, SaveFault, OutFault, Memory}
-use Rattle.palmig_top.specs.declared.exit.Refusal.TheVariants.{Clash, Later}
+use Rattle.answers.specs.declared.exit.Exit.{Exit}
+use Rattle.answers.specs.declared.exit.Exit.TheVariants.{Done, Usage, Refused, Missing, ReadFault, SaveFault, OutFault, Memory}
 use Rattle.palmig_top.specs.Verdict.{◌>>=◌}
 use Rattle.palmig_top.specs.Answer.{IsCaused}
 use Rattle.palmig_top.specs.Steps.{StepGives, Gives, Fails, IsLoadFailure, Says}
@@ -35,8 +34,7 @@ fails-first : {Y Z : Type 0} (judge : Held → Result Y Exit) (next : Held → Y
     ((f : List ℕ) → first h f → both h f) → Fails judge first h e → Fails (λ k. judge k >>= next k) both h e
 fails-first judge next first both h (ReadFault f) widen p = widen f p
 fails-first judge next first both h (Missing f) widen p = ap (λ (q : Result _ Exit). q >>= next h) p
-fails-first judge next first both h (Refused (Later r)) widen p = ap (λ (q : Result _ Exit). q >>= next h) p
-fails-first judge next first both h (Refused Clash) widen p = p
+fails-first judge next first both h (Refused r) widen p = ap (λ (q : Result _ Exit). q >>= next h) p
 fails-first judge next first both h Memory widen p = tt
 fails-first judge next first both h Done widen p = p
 fails-first judge next first both h Usage widen p = p
@@ -66,8 +64,7 @@ gives-second : {X Y Z W : Type 0} (view : X → Y) (last : W → Z) (judge : Hel
 gives-second view last judge next second both h x (Ok w) e widen p = ap (λ (q : Result _ Exit). q >>= next h) e ∙ p
 gives-second view last judge next second both h x (Err (ReadFault f)) e widen p = widen f p
 gives-second view last judge next second both h x (Err (Missing f)) e widen p = ap (λ (q : Result _ Exit). q >>= next h) e ∙ p
-gives-second view last judge next second both h x (Err (Refused (Later r))) e widen p = ap (λ (q : Result _ Exit). q >>= next h) e ∙ p
-gives-second view last judge next second both h x (Err (Refused Clash)) e widen p = p
+gives-second view last judge next second both h x (Err (Refused r)) e widen p = ap (λ (q : Result _ Exit). q >>= next h) e ∙ p
 gives-second view last judge next second both h x (Err Memory) e widen p = tt
 gives-second view last judge next second both h x (Err Done) e widen p = p
 gives-second view last judge next second both h x (Err Usage) e widen p = p
@@ -98,8 +95,7 @@ second-step view last judge next first second both held mid after before between
 -- a second step that needs no file
 says-gives : {Z W : Type 0} (last : W → Z) (told : Result Z Exit) (both : Held → List ℕ → Type 0) (h : Held) (r : Result W Exit) → Says last told r → Gives last (λ k. told) both h r
 says-gives last told both h (Ok w) p = p
-says-gives last told both h (Err (Refused (Later f))) p = p
-says-gives last told both h (Err (Refused Clash)) p = p
+says-gives last told both h (Err (Refused r)) p = p.1
 says-gives last told both h (Err Memory) p = p
 says-gives last told both h (Err (ReadFault f)) p = absurd p
 says-gives last told both h (Err (Missing f)) p = absurd p
@@ -121,8 +117,7 @@ says-caused last told before now (Err OutFault) p = tt
 
 says-failure : {Z W : Type 0} (last : W → Z) (told : Result Z Exit) (r : Result W Exit) → Says last told r → IfErr r (λ e. IsLoadFailure e)
 says-failure last told (Ok w) p = tt
-says-failure last told (Err (Refused (Later f))) p = tt
-says-failure last told (Err (Refused Clash)) p = p
+says-failure last told (Err (Refused r)) p = p.0
 says-failure last told (Err Memory) p = tt
 says-failure last told (Err (ReadFault f)) p = tt
 says-failure last told (Err (Missing f)) p = tt

@@ -1,20 +1,23 @@
 -- The chips of a board, one behind another.
-use Rattle.std.proofs.Common.{ℕ, zero, suc, ◌≡◌, ◌<◌, ◌≤◌, ◌+◌, Bool, List, [], ◌∷◌, ◌++◌, length, take, drop, Option, Some, None, Result, Ok, Err, refl, sym, ap, ◌∙◌, subst, arith, append_assoc, inl, inr}
-use Rattle.std.specs.Prelude.{IfSome, IfErr, slice_get}
+use Rattle.std.proofs.Common.{ℕ, ◌≡◌, List, [], ◌∷◌, ◌++◌, Option, Some, None, Result, Ok, Err, refl, sym, ap, ◌∙◌, subst, arith, append_assoc, inl, inr}
+use Rattle.std.specs.Prelude.{IfSome}
 use Rattle.mig_base.specs.declared.cells.ChipCells.{ChipCells}
 use Rattle.mig_base.specs.declared.nets.ChipLine.{ChipLine}
 use Rattle.mig_io.specs.Counts.{Counts, NoneFell}
 use Rattle.mig_io.specs.Holding.{Held}
-use Rattle.palmig_top.specs.declared.exit.Exit.{Exit}
-use Rattle.palmig_top.specs.declared.exit.Exit.TheVariants.{Done, Usage, Refused, Missing, ReadFault, SaveFault, OutFault, Memory}
-use Rattle.palmig_top.specs.declared.exit.Refusal.TheVariants.{Clash, Later}
+use Rattle.answers.specs.declared.exit.Exit.{Exit}
+use Rattle.answers.specs.declared.exit.Exit.TheVariants.{Done, Usage, Refused, Missing, ReadFault, SaveFault, OutFault, Memory}
 use Rattle.mig_base.specs.declared.nets.Net.{Net}
 use Rattle.palmig_top.specs.declared.parts.Parts.{Parts}
 use Rattle.palmig_top.specs.Verdict.{◌>>=◌, chip_held, chips_held, wiring_held, parts_held, LoadsChips, LoadsBoard}
 use Rattle.palmig_top.specs.HeldBoard.{jed_file, net_file}
-use Rattle.palmig_top.specs.Steps.{StepGives, Gives, Fails, IsLoadFailure}
+use Rattle.palmig_top.specs.Steps.{StepGives, Fails}
 use Rattle.taken_boards.specs.TakenBoards.{IsMade, AreMade}
 use Rattle.palmig_top.proofs.Chains.{fell-on, caused-later, second-step, first-failed, pure-step}
+
+-- the chip of a line
+abbrev pub chip_at : Held → List ℕ → ChipLine → Result ChipCells Exit
+chip_at held stem line = chip_held held (jed_file stem line.name) line.kind
 
 -- what was made stands before what is still to come
 abbrev pub behind : List ChipCells → Result (List ChipCells) Exit → Result (List ChipCells) Exit
@@ -52,7 +55,7 @@ behind-step made cells (Ok rest) = ap (λ (q : List ChipCells). Ok q) (append_as
 behind-step made cells (Err e) = refl
 
 told-step : (stem : List ℕ) (lines left : List ChipLine) (line : ChipLine) (made : List ChipCells) (cells : ChipCells) (h : Held) →
-    Told stem lines (line ∷ left) made h → chip_held h stem line ≡ Ok cells → Told stem lines left (made ++ cells ∷ []) h
+    Told stem lines (line ∷ left) made h → chip_at h stem line ≡ Ok cells → Told stem lines left (made ++ cells ∷ []) h
 told-step stem lines left line made cells h t e = record {
   judged = behind-step made cells (chips_held h stem left)
       ∙ sym (ap (λ (q : Result ChipCells Exit). behind made (q >>= λ c. chips_held h stem left >>= λ chips. Ok (c ∷ chips))) e) ∙ t.judged;
@@ -61,27 +64,26 @@ told-step stem lines left line made cells h t e = record {
 
 pub chips-step : (held now after : Option Held) (before between later : Counts) (stem : List ℕ) (lines left : List ChipLine) (line : ChipLine) (made : List ChipCells) (cells : ChipCells) →
     ChipsSoFar held now before between stem lines (line ∷ left) made →
-    StepGives (λ c. c) (λ h. chip_held h stem line) (λ h f. f ≡ jed_file stem line.name) now after between later (Ok cells) →
+    StepGives (λ c. c) (λ h. chip_at h stem line) (λ h f. f ≡ jed_file stem line.name) now after between later (Ok cells) →
     ChipsSoFar held after before later stem lines left (made ++ cells ∷ [])
 chips-step held now after before between later stem lines left line made cells s p = record {
   same = p.same ∙ s.same;
   later = fell-on before between later s.later p.later;
-  told = at held s.told (subst (λ (o : Option Held). IfSome o (λ h. chip_held h stem line ≡ Ok cells)) s.same p.gives);
+  told = at held s.told (subst (λ (o : Option Held). IfSome o (λ h. chip_at h stem line ≡ Ok cells)) s.same p.gives);
 }
   where
-    at : (o : Option Held) → IfSome o (λ h. Told stem lines (line ∷ left) made h) → IfSome o (λ h. chip_held h stem line ≡ Ok cells) → IfSome o (λ h. Told stem lines left (made ++ cells ∷ []) h)
+    at : (o : Option Held) → IfSome o (λ h. Told stem lines (line ∷ left) made h) → IfSome o (λ h. chip_at h stem line ≡ Ok cells) → IfSome o (λ h. Told stem lines left (made ++ cells ∷ []) h)
     at None t e = tt
     at (Some h) t e = told-step stem lines left line made cells h t e
 
 -- a chip that fails
 told-fails : (stem : List ℕ) (lines left : List ChipLine) (line : ChipLine) (made : List ChipCells) (h : Held) (e : Exit) →
-    Told stem lines (line ∷ left) made h → Fails (λ k. chip_held k stem line) (λ k f. f ≡ jed_file stem line.name) h e →
+    Told stem lines (line ∷ left) made h → Fails (λ k. chip_at k stem line) (λ k f. f ≡ jed_file stem line.name) h e →
     Fails (λ k. chips_held k stem lines) (λ k f. LoadsChips k stem lines f) h e
 told-fails stem lines left line made h (ReadFault f) t p = t.loads f (inl p)
 told-fails stem lines left line made h (Missing f) t p =
     sym t.judged ∙ ap (λ (q : Result ChipCells Exit). behind made (q >>= λ c. chips_held h stem left >>= λ chips. Ok (c ∷ chips))) p
-told-fails stem lines left line made h (Refused Clash) t p = p
-told-fails stem lines left line made h (Refused (Later f)) t p =
+told-fails stem lines left line made h (Refused r) t p =
     sym t.judged ∙ ap (λ (q : Result ChipCells Exit). behind made (q >>= λ c. chips_held h stem left >>= λ chips. Ok (c ∷ chips))) p
 told-fails stem lines left line made h Memory t p = tt
 told-fails stem lines left line made h Done t p = p
@@ -91,17 +93,17 @@ told-fails stem lines left line made h OutFault t p = p
 
 pub chips-fail : {X : Type 0} (view : X → List ChipCells) (held now after : Option Held) (before between later : Counts) (stem : List ℕ) (lines left : List ChipLine) (line : ChipLine) (made : List ChipCells) (e : Exit) →
     ChipsSoFar held now before between stem lines (line ∷ left) made →
-    StepGives {X = ChipCells} (λ c. c) (λ h. chip_held h stem line) (λ h f. f ≡ jed_file stem line.name) now after between later (Err e) →
+    StepGives {X = ChipCells} (λ c. c) (λ h. chip_at h stem line) (λ h f. f ≡ jed_file stem line.name) now after between later (Err e) →
     StepGives view (λ h. chips_held h stem lines) (λ h f. LoadsChips h stem lines f) held after before later (Err e)
 chips-fail view held now after before between later stem lines left line made e s p = record {
   same = p.same ∙ s.same;
   later = fell-on before between later s.later p.later;
   caused = caused-later before between later e s.later p.caused;
   failure = p.failure;
-  gives = at held s.told (subst (λ (o : Option Held). IfSome o (λ h. Fails (λ k. chip_held k stem line) (λ k f. f ≡ jed_file stem line.name) h e)) s.same p.gives);
+  gives = at held s.told (subst (λ (o : Option Held). IfSome o (λ h. Fails (λ k. chip_at k stem line) (λ k f. f ≡ jed_file stem line.name) h e)) s.same p.gives);
 }
   where
-    at : (o : Option Held) → IfSome o (λ h. Told stem lines (line ∷ left) made h) → IfSome o (λ h. Fails (λ k. chip_held k stem line) (λ k f. f ≡ jed_file stem line.name) h e) →
+    at : (o : Option Held) → IfSome o (λ h. Told stem lines (line ∷ left) made h) → IfSome o (λ h. Fails (λ k. chip_at k stem line) (λ k f. f ≡ jed_file stem line.name) h e) →
         IfSome o (λ h. Fails (λ k. chips_held k stem lines) (λ k f. LoadsChips k stem lines f) h e)
     at None t q = tt
     at (Some h) t q = told-fails stem lines left line made h e t q

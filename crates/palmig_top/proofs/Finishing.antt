@@ -1,16 +1,19 @@
 -- From the steps of a command to its answer.
-use Rattle.std.proofs.Common.{ℕ, zero, suc, ◌≡◌, ◌≢◌, ◌⊎◌, ◌<◌, ◌≤◌, ◌+◌, List, [], ◌∷◌, ◌++◌, length, take, Option, Some, None, Result, Ok, Err, refl, sym, ap, ◌∙◌, subst, inl, inr, arith}
+use Rattle.std.proofs.Common.{ℕ, ◌≡◌, ◌≢◌, ◌⊎◌, List, [], ◌∷◌, ◌++◌, length, take, Option, Some, None, Result, Ok, Err, refl, sym, ap, ◌∙◌, subst, inl, inr, arith}
 use Rattle.std.specs.Prelude.{IfSome, IfErr}
 use Rattle.std.specs.Option.{option_map}
 use Rattle.mig_io.specs.Counts.{Counts, NoneFell, Rose}
 use Rattle.mig_io.specs.Holding.{Held}
-use Rattle.palmig_top.specs.declared.exit.Exit.{Exit}
-use Rattle.palmig_top.specs.declared.exit.Exit.TheVariants.{Done, Usage, Refused, Missing, ReadFault, SaveFault, OutFault, Memory}
-use Rattle.palmig_top.specs.declared.exit.Refusal.TheVariants.{Clash, Later}
-use Rattle.palmig_top.specs.declared.words.Command.{Command}
-use Rattle.palmig_top.specs.Commands.{IsCommandOf}
-use Rattle.palmig_top.specs.Verdict.{◌>>=◌, File, Outcome, command_or_refusal, judged, judged_migration, LoadsBoard, answer_report}
-use Rattle.palmig_top.specs.Answer.{Answers, FilesAfter, IsCommand, IsVerdict, IsCaused, LeavesFiles, Loads, Partly, StoppedAt, Replaced, HasReport, Sent, SentPart, placed_all}
+use Rattle.answers.specs.declared.exit.Exit.{Exit}
+use Rattle.answers.specs.declared.exit.Exit.TheVariants.{Done, Usage, Refused, Missing, ReadFault, SaveFault, OutFault, Memory}
+use Rattle.answers.specs.declared.exit.Refusal.{Refusal}
+use Rattle.answers.specs.declared.exit.Refusal.TheVariants.{Clash, Later, TooLong, Jed, Chip, Net}
+use Rattle.answers.specs.Exits.{IsOfFiles}
+use Rattle.answers.specs.declared.words.Command.{Command}
+use Rattle.answers.specs.Commands.{IsCommandOf, command_or_refusal}
+use Rattle.answers.specs.Reports.{answer_report}
+use Rattle.palmig_top.specs.Verdict.{◌>>=◌, File, Outcome, judged, judged_command, LoadsFor}
+use Rattle.palmig_top.specs.Answer.{Answers, FilesAfter, IsRefused, IsRightRefusal, IsVerdict, IsCaused, LeavesFiles, Loads, Partly, HasReport, Sent, SentPart, placed_all}
 use Rattle.palmig_top.specs.Saving.{SavesAll}
 use Rattle.palmig_top.specs.Clauses.{Call, IsCausedIn, LeavesFilesIn, Reports, IsMigrated}
 use Rattle.palmig_top.proofs.Headline.{headline}
@@ -20,8 +23,7 @@ use Rattle.palmig_top.proofs.Chains.{fell-on, caused-later, rose-before}
 load-kind : (e : Exit) → IsLoadFailure e → IsOfCommand e
 load-kind (ReadFault f) p = tt
 load-kind (Missing f) p = tt
-load-kind (Refused (Later f)) p = tt
-load-kind (Refused Clash) p = p
+load-kind (Refused r) p = p
 load-kind Memory p = tt
 load-kind Done p = absurd p
 load-kind Usage p = p
@@ -31,8 +33,7 @@ load-kind OutFault p = p
 load-verdict : (judge : Held → Result Outcome Exit) (loads : Held → List ℕ → Type 0) (h : Held) (e : Exit) → Fails judge loads h e → VerdictOf judge h e
 load-verdict judge loads h (ReadFault f) p = tt
 load-verdict judge loads h (Missing f) p = p
-load-verdict judge loads h (Refused (Later f)) p = p
-load-verdict judge loads h (Refused Clash) p = p
+load-verdict judge loads h (Refused r) p = p
 load-verdict judge loads h Memory p = tt
 load-verdict judge loads h Done p = absurd p
 load-verdict judge loads h Usage p = p
@@ -134,18 +135,26 @@ finishes-saving view judge loads held mid after before between now x r p saved f
 
 -- from a command's finish to the call's answer
 
-judged-command : (words : List (List ℕ)) (c : Command) (h : Held) → command_or_refusal words ≡ Ok c → judged words h ≡ judged_migration c h
-judged-command words c h e = ap (λ (q : Result Command Exit). q >>= λ d. judged_migration d h) e
+judged-command : (words : List (List ℕ)) (c : Command) (h : Held) → command_or_refusal words ≡ Ok c → judged words h ≡ judged_command c h
+judged-command words c h e = ap (λ (q : Result Command Exit). q >>= λ d. judged_command d h) e
+
+-- a refusal of a command that was begun
+right-refusal : (words : List (List ℕ)) (held : Option Held) (r : Refusal) → IsOfFiles r → IsRefused words held (Refused r) → IsRightRefusal words held r
+right-refusal words held Clash k p = absurd k
+right-refusal words held (Later f) k p = (k, p)
+right-refusal words held (TooLong f) k p = (k, p)
+right-refusal words held (Jed f e) k p = (k, p)
+right-refusal words held (Chip f e) k p = (k, p)
+right-refusal words held (Net f e) k p = (k, p)
 
 verdict-command : (words : List (List ℕ)) (c : Command) (held : Option Held) (e : Exit) → command_or_refusal words ≡ Ok c → IsOfCommand e →
-    IfSome held (λ h. VerdictOf (λ k. judged_migration c k) h e) → IsVerdict words held e
+    IfSome held (λ h. VerdictOf (λ k. judged_command c k) h e) → IsVerdict words held e
 verdict-command words c None Done e k p = ((c, e), tt)
 verdict-command words c (Some h) Done e k p = ((c, e), (p.0, judged-command words c h e ∙ p.1))
 verdict-command words c None (Missing f) e k p = ((c, e), tt)
 verdict-command words c (Some h) (Missing f) e k p = ((c, e), judged-command words c h e ∙ p)
-verdict-command words c None (Refused (Later f)) e k p = ((c, e), tt)
-verdict-command words c (Some h) (Refused (Later f)) e k p = ((c, e), judged-command words c h e ∙ p)
-verdict-command words c held (Refused Clash) e k p = absurd k
+verdict-command words c None (Refused r) e k p = right-refusal words None r k ((c, e), tt)
+verdict-command words c (Some h) (Refused r) e k p = right-refusal words (Some h) r k ((c, e), judged-command words c h e ∙ p)
 verdict-command words c held Usage e k p = absurd k
 verdict-command words c held (ReadFault f) e k p = (c, e)
 verdict-command words c held (SaveFault f) e k p = (c, e)
@@ -153,7 +162,7 @@ verdict-command words c held OutFault e k p = tt
 verdict-command words c held Memory e k p = tt
 
 files-command : (words : List (List ℕ)) (c : Command) (h : Held) (after : Option Held) (before now : Counts) (e : Exit) → command_or_refusal words ≡ Ok c →
-    FilesAfter (λ k. judged_migration c k) (λ k f. LoadsBoard k c.old f) h after before now e → FilesAfter (judged words) (Loads words) h after before now e
+    FilesAfter (λ k. judged_command c k) (λ k f. LoadsFor c k f) h after before now e → FilesAfter (judged words) (Loads words) h after before now e
 files-command words c h after before now Done e p = (p.0, judged-command words c h e ∙ p.1, p.2)
 files-command words c h after before now (SaveFault f) e p = (p.0, judged-command words c h e ∙ p.1, p.2)
 files-command words c h after before now Memory e (inl p) = inl p
@@ -175,7 +184,7 @@ no-out_fault (SaveFault f) k p = let no : ⊥ = cc in no
 no-out_fault Memory k p = let no : ⊥ = cc in no
 
 pub answers-command : (words : List (List ℕ)) (c : Command) (held after : Option Held) (before now : Counts) (e : Exit) → command_or_refusal words ≡ Ok c →
-    Finishes (λ k. judged_migration c k) (λ k f. LoadsBoard k c.old f) held after before now e → Answers words held after before now e
+    Finishes (λ k. judged_command c k) (λ k f. LoadsFor c k f) held after before now e → Answers words held after before now e
 answers-command words c held after before now e command p = record {
   later = p.later;
   verdict = verdict-command words c held e command p.kind p.verdict;
@@ -184,7 +193,7 @@ answers-command words c held after before now e command p = record {
   reported = no-out_fault e p.kind;
 }
   where
-    files : (o : Option Held) → IfSome o (λ h. FilesAfter (λ k. judged_migration c k) (λ k f. LoadsBoard k c.old f) h after before now e) →
+    files : (o : Option Held) → IfSome o (λ h. FilesAfter (λ k. judged_command c k) (λ k f. LoadsFor c k f) h after before now e) →
         IfSome o (λ h. FilesAfter (judged words) (Loads words) h after before now e)
     files None q = tt
     files (Some h) q = files-command words c h after before now e command q
@@ -210,6 +219,10 @@ answers-words words held before Memory p = record { later = none-fell before; ve
     at None = tt
     at (Some h) = inl refl
 answers-words words held before (Refused (Later f)) p = absurd p
+answers-words words held before (Refused (TooLong f)) p = absurd p
+answers-words words held before (Refused (Jed f e)) p = absurd p
+answers-words words held before (Refused (Chip f e)) p = absurd p
+answers-words words held before (Refused (Net f e)) p = absurd p
 answers-words words held before Done p = absurd p
 answers-words words held before (Missing f) p = absurd p
 answers-words words held before (ReadFault f) p = absurd p
@@ -284,7 +297,7 @@ save-failure fs mid after between now OutFault p = tt
 
 -- the report of a command that is done
 pub has-done : (words : List (List ℕ)) (c : Command) (held : Option Held) (text : List ℕ) → command_or_refusal words ≡ Ok c →
-    IfSome held (λ h. (outcome : Outcome) × (judged_migration c h ≡ Ok outcome) × (text ≡ outcome.report)) → HasReport words held Done (λ t. text ≡ t)
+    IfSome held (λ h. (outcome : Outcome) × (judged_command c h ≡ Ok outcome) × (text ≡ outcome.report)) → HasReport words held Done (λ t. text ≡ t)
 has-done words c None text e p = tt
 has-done words c (Some h) text e p = (p.0, judged-command words c h e ∙ p.1, p.2)
 

@@ -1,5 +1,5 @@
 -- What a migration leaves.
-use Rattle.std.proofs.Common.{ℕ, ◌≡◌, Bool, true, List, [], ◌∷◌, ◌++◌, map, length, Option, Some, None, Result, Ok, Err, refl, sym, ap, ◌∙◌, subst, append_assoc}
+use Rattle.std.proofs.Common.{ℕ, ◌≡◌, true, List, [], ◌∷◌, ◌++◌, map, Option, Some, None, Result, Ok, refl, sym, ap, ◌∙◌, subst, append_assoc}
 use Rattle.std.specs.Prelude.{IfSome}
 use Rattle.std.specs.List.{AllByRecursion}
 use Rattle.std.specs.Str.{bytes_eq}
@@ -16,23 +16,26 @@ use Rattle.mig_base.proofs.WrittenLength.{written-short}
 use Rattle.mig_io.specs.Counts.{Counts}
 use Rattle.mig_io.specs.Holding.{Held}
 use Rattle.new_board.specs.declared.types.FittedChip.{FittedChip}
-use Rattle.taken_boards.specs.TakenBoards.{AreMade, TakenBoard, is_taken_wiring, is_taken_form}
+use Rattle.taken_boards.specs.TakenBoards.{AreMade, TakenBoard}
 use Rattle.new_board.specs.OneForOne.{one_for_one}
 use Rattle.new_board.specs.NewFiles.{new_chip_line}
 use Rattle.rebuilt_boards.specs.RebuiltBoards.{built_chips, built_cells, built_net, IsRebuilt, IsBuiltWell}
 use Rattle.rebuilt_boards.proofs.TakenBoards.{taken-rebuilt}
 use Rattle.rebuilt_boards.proofs.BuiltWell.{built-well}
-use Rattle.palmig_top.specs.declared.exit.Exit.{Exit}
-use Rattle.palmig_top.specs.declared.exit.Exit.TheVariants.{Done, Refused}
-use Rattle.palmig_top.specs.declared.exit.Refusal.TheVariants.{Later}
-use Rattle.palmig_top.specs.declared.words.Command.{Command}
+use Rattle.answers.specs.declared.exit.Exit.{Exit}
+use Rattle.answers.specs.declared.exit.Exit.TheVariants.{Done, Refused}
+use Rattle.answers.specs.declared.exit.Refusal.TheVariants.{Later}
+use Rattle.answers.specs.declared.exit.Refusal.TheVariants as refusal
+use Rattle.answers.specs.declared.words.Command.{Command}
+use Rattle.answers.specs.declared.words.Command.TheVariants.{Migrate}
+use Rattle.answers.specs.declared.words.Migration.{Migration}
+use Rattle.answers.specs.Commands.{command_or_refusal}
 use Rattle.palmig_top.specs.declared.parts.Parts.{Parts}
 use Rattle.palmig_top.specs.HeldBoard.{HoldsBoard, HoldsChips, HoldsFile, net_file, plan_file}
-use Rattle.palmig_top.specs.Verdict.{◌>>=◌, File, Outcome, command_or_refusal, judged, judged_migration, outcome_or_later, outcome_of, files_of, fuse_file, new_chips, new_wiring, loaded, wiring_of, or_later, wiring_held, chips_held, parts_held, only_if}
+use Rattle.palmig_top.specs.Verdict.{◌>>=◌, File, Outcome, judged, judged_command, judged_migration, outcome_or_later, outcome_of, files_of, fuse_file, is_taken_board, loaded, wiring_of, wiring_held, chips_held, parts_held}
 use Rattle.palmig_top.specs.Answer.{Answers, LeavesFiles, placed_all}
 use Rattle.palmig_top.specs.Clauses.{Call, IsMigrated, Migrated}
-use Rattle.palmig_top.specs.Reading.{IsReadWiring, IsReadBoard}
-use Rattle.palmig_top.proofs.HeldParts.{Went, went, only, told, holds-file, plain-text, chips-hold, chips-read, taken-board, read-writable}
+use Rattle.palmig_top.proofs.HeldParts.{went, only, told, holds-file, chips-hold, chips-read, taken-board, read-writable}
 use Rattle.palmig_top.proofs.NewFilesHeld.{built-chips, apart-behind, last-placed}
 
 -- a board that was judged
@@ -40,7 +43,6 @@ pub record Judged (h : Held) (stem : List ℕ) (parts : Parts) : Type 0 where
   pub bytes : List ℕ
   pub file : HoldsFile h (net_file stem) bytes
   pub text : net_of_text bytes ≡ Ok parts.net
-  pub wiring : IsReadWiring parts.net
   pub chips : HoldsChips h stem parts.net.chips parts.chips
   pub read : AreMade parts.net.chips parts.chips
 
@@ -52,14 +54,10 @@ judged-parts h stem parts e =
     let a = went (wiring_held h stem) (λ net. chips_held h stem net.chips >>= λ chips. Ok (record { net = net; chips = chips })) parts e in
     let b = went (chips_held h stem a.at.chips) (λ chips. Ok (record { net = a.at; chips = chips })) parts a.then in
     let f = went (loaded h (net_file stem)) (λ bytes. wiring_of (net_file stem) bytes) a.at a.begun in
-    let p = went (or_later (net_file stem) _) (λ net. only_if (is_taken_wiring net) net (Refused (Later (net_file stem)))) a.at f.then in
-    let o = only (is_taken_wiring p.at) p.at a.at (Refused (Later (net_file stem))) p.then in
-    let plain = told (net_file stem) _ p.at p.begun in
     subst (Judged h stem) (ok-same (record { net = a.at; chips = b.at }) parts b.then) (record {
       bytes = f.at;
       file = holds-file h (net_file stem) f.at f.begun;
-      text = subst (λ (n : Net). net_of_text f.at ≡ Ok n) o.same (plain-text f.at p.at plain);
-      wiring = subst IsReadWiring o.same (record { bytes = f.at; plain = plain; taken = o.passed });
+      text = told (refusal.Net (net_file stem)) (net_of_text f.at) a.at f.then;
       chips = chips-hold h stem a.at.chips b.at b.begun;
       read = chips-read h stem a.at.chips b.at b.begun;
     })
@@ -105,7 +103,7 @@ new-board h stem parts well rebuilt = record {
 moved : (h : Held) (old new : List ℕ) (parts : Parts) → Judged h old parts → TakenBoard parts.net parts.chips → Migrated h (placed_all (files_of new parts) h) old new
 moved h old new parts j taken =
     let rebuilt = taken-rebuilt parts.net parts.chips taken in
-    let well = built-well parts.net parts.chips (read-writable parts.net j.wiring) taken in
+    let well = built-well parts.net parts.chips (read-writable parts.net (j.bytes, j.text)) taken in
     record {
       old_parts = parts;
       new_net = built_net parts.net parts.chips;
@@ -124,25 +122,25 @@ moved h old new parts j taken =
       cells = refl;
     }
 
--- a command that is done has migrated the board
-pub migrated : (c : Command) (h : Held) (outcome : Outcome) → judged_migration c h ≡ Ok outcome → Migrated h (placed_all outcome.saves h) c.old c.new
-migrated c h outcome e =
-    let a = went (parts_held h c.old) (outcome_or_later c) outcome e in
-    let o = only (is_taken_form a.at.net a.at.chips) (outcome_of c.new a.at) outcome (Refused (Later (net_file c.old))) a.then in
-    let j = judged-parts h c.old a.at a.begun in
-    subst (λ (q : Outcome). Migrated h (placed_all q.saves h) c.old c.new) o.same
-    (moved h c.old c.new a.at j (taken-board a.at (record { wiring = j.wiring; chips = j.read }) o.passed))
+-- a migration that is done has moved the board
+pub migrated : (m : Migration) (h : Held) (outcome : Outcome) → judged_migration m h ≡ Ok outcome → Migrated h (placed_all outcome.saves h) m.old m.new
+migrated m h outcome e =
+    let a = went (parts_held h m.old) (outcome_or_later m) outcome e in
+    let o = only (is_taken_board a.at) (outcome_of m.new a.at) outcome (Refused (Later (net_file m.old))) a.then in
+    let j = judged-parts h m.old a.at a.begun in
+    subst (λ (q : Outcome). Migrated h (placed_all q.saves h) m.old m.new) o.same
+    (moved h m.old m.new a.at j (taken-board a.at (record { wiring = (j.bytes, j.text); chips = j.read }) o.passed))
 
-command-judged : (words : List (List ℕ)) (c : Command) (h : Held) (outcome : Outcome) → command_or_refusal words ≡ Ok c → judged words h ≡ Ok outcome → judged_migration c h ≡ Ok outcome
-command-judged words c h outcome e j = sym (ap (λ (q : Result Command Exit). q >>= λ d. judged_migration d h) e) ∙ j
+migration-judged : (words : List (List ℕ)) (m : Migration) (h : Held) (outcome : Outcome) → command_or_refusal words ≡ Ok (Migrate m) → judged words h ≡ Ok outcome → judged_migration m h ≡ Ok outcome
+migration-judged words m h outcome e j = sym (ap (λ (q : Result Command Exit). q >>= λ d. judged_command d h) e) ∙ j
 
 done-migrated : (words : List (List ℕ)) (held after : Option Held) (before now : Counts) → LeavesFiles words held after before now Done →
-    IfSome held (λ h. IfSome after (λ k. (c : Command) → command_or_refusal words ≡ Ok c → Migrated h k c.old c.new))
+    IfSome held (λ h. IfSome after (λ k. (m : Migration) → command_or_refusal words ≡ Ok (Migrate m) → Migrated h k m.old m.new))
 done-migrated words None after before now p = tt
 done-migrated words (Some h) None before now p = tt
-done-migrated words (Some h) (Some k) before now p = λ c e.
+done-migrated words (Some h) (Some k) before now p = λ m e.
     let same : k ≡ placed_all p.0.saves h = cc in
-    subst (λ (q : Held). Migrated h q c.old c.new) (sym same) (migrated c h p.0 (command-judged words c h p.0 e p.1))
+    subst (λ (q : Held). Migrated h q m.old m.new) (sym same) (migrated m h p.0 (migration-judged words m h p.0 e p.1))
 
 pub headline : (call : Call) (e : Exit) → Answers call.words call.held call.after call.before call.now e → IsMigrated call e
 headline call e p = λ done. done-migrated call.words call.held call.after call.before call.now (subst (λ (x : Exit). LeavesFiles call.words call.held call.after call.before call.now x) done p.files)

@@ -1,29 +1,25 @@
 -- The new files are held after they were placed.
-use Rattle.std.proofs.Common.{ℕ, zero, suc, ◌≡◌, ◌≢◌, ◌≤◌, ◌+◌, Bool, true, false, cond, ◌&&◌, ◌||◌, not, List, [], ◌∷◌, ◌++◌, map, length, Option, Some, None, Result, Ok, Err, refl, sym, ap, ◌∙◌, subst, IsTrue, arith, append_assoc}
+use Rattle.std.proofs.Common.{ℕ, ◌≡◌, ◌≢◌, Bool, true, false, cond, ◌&&◌, ◌||◌, not, List, [], ◌∷◌, ◌++◌, map, length, Some, Ok, Err, refl, sym, ap, ◌∙◌, arith}
 use Rattle.std.specs.Prelude.{codes}
 use Rattle.std.specs.List.{AllByRecursion, list_any}
 use Rattle.std.specs.Str.{bytes_eq}
 use Rattle.std.proofs.lemmas.List.{append_cancel_left, append_cancel_right}
 use Rattle.std.proofs.lemmas.Slice.Eq.{bytes_eq-Decides}
 use Rattle.mig_base.specs.declared.kinds.Kind.{Kind}
-use Rattle.mig_base.specs.declared.kinds.Kind.TheVariants.{Gal16V8}
 use Rattle.mig_base.specs.declared.cells.ChipCells.{ChipCells}
-use Rattle.mig_base.specs.declared.cells.ChipError.{ChipError}
 use Rattle.mig_base.specs.declared.cells.ChipError.TheVariants.{Count}
-use Rattle.mig_base.specs.declared.nets.ChipLine.{ChipLine}
 use Rattle.mig_base.specs.DeviceTables.{has_count, is_v8}
 use Rattle.mig_base.specs.Cells.{cells_of, cells_by_kind}
 use Rattle.mig_base.specs.WellFormed.{IsWellFormed}
 use Rattle.mig_base.specs.WrittenCells.{v8_fuses}
 use Rattle.mig_base.specs.WrittenFuses.{written_fuses}
 use Rattle.mig_base.specs.WrittenBoard.{are_distinct}
-use Rattle.mig_base.specs.FuseText.{fuses_of_text}
 use Rattle.mig_base.proofs.V8Laws.{v8-again}
 use Rattle.mig_base.proofs.WrittenKinds.{written-read, written-short}
 use Rattle.mig_io.specs.Holding.{Held, placed}
 use Rattle.new_board.specs.declared.types.FittedChip.{FittedChip}
 use Rattle.new_board.specs.NewFiles.{new_chip_line}
-use Rattle.palmig_top.specs.HeldBoard.{HoldsFile, HoldsChip, HoldsChips, net_file, plan_file, jed_file}
+use Rattle.palmig_top.specs.HeldBoard.{HoldsChip, HoldsChips, net_file, plan_file, jed_file}
 use Rattle.palmig_top.specs.Verdict.{File, fuse_file}
 use Rattle.palmig_top.specs.Answer.{placed_all}
 

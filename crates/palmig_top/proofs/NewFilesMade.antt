@@ -1,8 +1,8 @@
 -- What is made for saving, step by step.
-use Rattle.std.proofs.Common.{ℕ, zero, suc, ◌≡◌, ◌+◌, Bool, true, false, List, [], ◌∷◌, ◌++◌, map, length, take, Result, Ok, Err, MatchResult, refl, sym, ap, ◌∙◌, subst}
+use Rattle.std.proofs.Common.{ℕ, suc, ◌≡◌, Bool, true, false, List, [], ◌∷◌, ◌++◌, map, length, Result, Ok, Err, MatchResult, refl, sym, ap, ◌∙◌, subst}
 use Rattle.std.specs.Prelude.{IfOk}
 use Rattle.std.specs.Prelude.{◌&&◌}
-use Rattle.std.specs.List.{AllByRecursion, list_all}
+use Rattle.std.specs.List.{AllByRecursion}
 use Rattle.mig_base.specs.declared.kinds.Kind.{Kind}
 use Rattle.mig_base.specs.declared.kinds.Kind.TheVariants.{Gal16V8}
 use Rattle.mig_base.specs.declared.cells.ChipCells.{ChipCells}
@@ -19,19 +19,18 @@ use Rattle.mig_base.specs.WrittenCells.{v8_fuses}
 use Rattle.mig_base.specs.WrittenFuses.{written_fuses}
 use Rattle.new_board.specs.declared.types.FittedChip.{FittedChip}
 use Rattle.new_board.specs.OneForOne.{one_for_one}
-use Rattle.taken_boards.specs.TakenBoards.{AreMade, is_taken_form, are_taken_ports, is_taken_circuit}
-use Rattle.rebuilt_boards.specs.RebuiltBoards.{IsBuiltWell, built_chips, built_net}
-use Rattle.palmig_top.specs.declared.exit.Exit.{Exit}
-use Rattle.palmig_top.specs.declared.exit.Exit.TheVariants.{Refused, Memory}
-use Rattle.palmig_top.specs.declared.exit.Refusal.TheVariants.{Later}
-use Rattle.palmig_top.specs.declared.words.Command.{Command}
+use Rattle.taken_boards.specs.TakenBoards.{AreMade, is_taken_wiring, are_taken_ports, is_taken_circuit}
+use Rattle.rebuilt_boards.specs.RebuiltBoards.{IsBuiltWell, built_chips}
+use Rattle.answers.specs.declared.exit.Exit.{Exit}
+use Rattle.answers.specs.declared.exit.Exit.TheVariants.{Refused, Memory}
+use Rattle.answers.specs.declared.exit.Refusal.TheVariants.{Later}
+use Rattle.answers.specs.declared.words.Migration.{Migration}
 use Rattle.palmig_top.specs.declared.parts.Parts.{Parts}
 use Rattle.palmig_top.specs.declared.prepare.Prepared.{Prepared}
 use Rattle.palmig_top.specs.HeldBoard.{net_file, plan_file, jed_file}
-use Rattle.palmig_top.specs.Verdict.{File, Outcome, fuse_file, files_of, new_chips, new_wiring, done_line, outcome_of, outcome_or_later, only_if}
+use Rattle.palmig_top.specs.Verdict.{File, Outcome, fuse_file, files_of, new_chips, new_wiring, done_line, outcome_of, outcome_or_later, is_taken_board, only_if}
 use Rattle.palmig_top.specs.Steps.{Says}
 use Rattle.palmig_top.specs.Reading.{IsReadBoard}
-use Rattle.palmig_top.specs.Saving.{file_of}
 use Rattle.palmig_top.specs.Preparing.{outcome_in, IsWritableChip}
 use Rattle.rebuilt_boards.proofs.BuiltWell.{built-well}
 use Rattle.palmig_top.proofs.HeldParts.{read-writable, taken-board}
@@ -69,7 +68,7 @@ as-many (l ∷ ls) (c ∷ cs) r = ap suc (as-many ls cs r.1)
 pub read-as-many : (parts : Parts) → IsReadBoard parts → length parts.chips ≡ length parts.net.chips
 read-as-many parts r = as-many parts.net.chips parts.chips r.chips
 
-built-of : (parts : Parts) → IsReadBoard parts → is_taken_form parts.net parts.chips ≡ true → IsBuiltWell parts.net parts.chips
+built-of : (parts : Parts) → IsReadBoard parts → is_taken_board parts ≡ true → IsBuiltWell parts.net parts.chips
 built-of parts r form = built-well parts.net parts.chips (read-writable parts.net r.wiring) (taken-board parts r form)
 
 writable-from : (fs : List FittedChip) → AllByRecursion (λ f. f.cells.kind ≡ Gal16V8) fs → AllByRecursion (λ f. IsWellFormed f.cells) fs → AllByRecursion IsWritableChip fs
@@ -77,13 +76,13 @@ writable-from [] k w = tt
 writable-from (f ∷ fs) k w = (record { kind = ap is_v8 k.0; cells = w.0 }, writable-from fs k.1 w.1)
 
 -- the new chips' fuses can be written
-pub writable-chips : (parts : Parts) → IsReadBoard parts → is_taken_form parts.net parts.chips ≡ true → (made : List FittedChip) → made ≡ new_chips parts → AllByRecursion IsWritableChip made
+pub writable-chips : (parts : Parts) → IsReadBoard parts → is_taken_board parts ≡ true → (made : List FittedChip) → made ≡ new_chips parts → AllByRecursion IsWritableChip made
 writable-chips parts r form made e =
     let well = built-of parts r form in
     subst (λ (fs : List FittedChip). AllByRecursion IsWritableChip fs) (sym e) (writable-from (built_chips parts.net parts.chips) well.kinds well.cells)
 
 -- the new wiring has a text
-pub writable-wiring : (parts : Parts) → IsReadBoard parts → is_taken_form parts.net parts.chips ≡ true → (made : Net) → made ≡ new_wiring parts → IsWritable made
+pub writable-wiring : (parts : Parts) → IsReadBoard parts → is_taken_board parts ≡ true → (made : Net) → made ≡ new_wiring parts → IsWritable made
 writable-wiring parts r form made e = subst IsWritable (sym e) (built-of parts r form).wiring
 
 -- what is saved and reported is what should be
@@ -101,25 +100,25 @@ outcome-made stem parts chips plan net saves report lines counted c p n s r l d 
     ∙ ap (λ (q : List ChipLine). done_line (length q) (length counted)) l ∙ ap (λ (q : List FittedChip). done_line (length parts.net.chips) (length q)) (d ∙ c))
 
 -- a board of another form is left for later
-pub left-for-later : (c : Command) (parts : Parts) (test : Bool) (name : List ℕ) → test ≡ is_taken_form parts.net parts.chips → test ≡ false → name ≡ net_file c.old →
-    outcome_or_later c parts ≡ Err (Refused (Later name))
-left-for-later c parts test name e f n =
-    ap (λ (b : Bool). only_if b (outcome_of c.new parts) (Refused (Later (net_file c.old)))) (sym e ∙ f) ∙ ap (λ (q : List ℕ). Err (Refused (Later q))) (sym n)
+pub left-for-later : (m : Migration) (parts : Parts) (name : List ℕ) → is_taken_board parts ≡ false → name ≡ net_file m.old →
+    Says {X = Prepared} outcome_in (outcome_or_later m parts) (Err (Refused (Later name)))
+left-for-later m parts name e n =
+    (tt, ap (λ (b : Bool). only_if b (outcome_of m.new parts) (Refused (Later (net_file m.old)))) e ∙ ap (λ (q : List ℕ). Err (Refused (Later q))) (sym n))
 
 -- a board of the form is done, but for want of memory
-pub done-or-memory : (c : Command) (parts : Parts) (r : Result Prepared Exit) → is_taken_form parts.net parts.chips ≡ true →
-    MatchResult r (λ p. outcome_in p ≡ outcome_of c.new parts) (λ e. e ≡ Memory) → Says outcome_in (outcome_or_later c parts) r
-done-or-memory c parts (Ok p) form made = ap (λ (b : Bool). only_if b (outcome_of c.new parts) (Refused (Later (net_file c.old)))) form ∙ ap (λ (o : Outcome). Ok o) (sym made)
-done-or-memory c parts (Err e) form made = subst (λ (x : Exit). Says outcome_in (outcome_or_later c parts) (Err x)) (sym made) tt
+pub done-or-memory : (m : Migration) (parts : Parts) (r : Result Prepared Exit) → is_taken_board parts ≡ true →
+    MatchResult r (λ p. outcome_in p ≡ outcome_of m.new parts) (λ e. e ≡ Memory) → Says outcome_in (outcome_or_later m parts) r
+done-or-memory m parts (Ok p) form made = ap (λ (b : Bool). only_if b (outcome_of m.new parts) (Refused (Later (net_file m.old)))) form ∙ ap (λ (o : Outcome). Ok o) (sym made)
+done-or-memory m parts (Err e) form made = subst (λ (x : Exit). Says outcome_in (outcome_or_later m parts) (Err x)) (sym made) tt
 
 -- the circuit that was made is the board's
 pub made-circuit : (parts : Parts) (made : Circuit) (cells : List ChipCells) → made ≡ circuit_for parts.net cells → cells ≡ parts.chips → made ≡ circuit_for parts.net parts.chips
 made-circuit parts made cells e c = e ∙ ap (circuit_for parts.net) c
 
--- the form that was tested is the board's
-pub form-of : (parts : Parts) (made : Circuit) (test : Bool) → made ≡ circuit_for parts.net parts.chips → test ≡ (are_taken_ports parts.net && is_taken_circuit made) →
-    test ≡ is_taken_form parts.net parts.chips
-form-of parts made test e t = t ∙ ap (λ (q : Circuit). are_taken_ports parts.net && is_taken_circuit q) e
+-- the wiring and the form that were tested are the board's
+pub taken-of : (parts : Parts) (made : Circuit) (form : Bool) → made ≡ circuit_for parts.net parts.chips → form ≡ (are_taken_ports parts.net && is_taken_circuit made) →
+    (is_taken_wiring parts.net && form) ≡ is_taken_board parts
+taken-of parts made form e t = ap (λ (b : Bool). is_taken_wiring parts.net && b) (t ∙ ap (λ (q : Circuit). are_taken_ports parts.net && is_taken_circuit q) e)
 
 -- what was made of the cells as they were lent
 pub built-from : {T : Type 0} {made : T} {cells chips : List ChipCells} (build : List ChipCells → T) → cells ≡ chips → made ≡ build cells → made ≡ build chips

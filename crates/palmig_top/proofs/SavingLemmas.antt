@@ -1,14 +1,14 @@
 -- What a save that failed leaves of a list of files.
-use Rattle.std.proofs.Common.{ℕ, zero, suc, ◌≡◌, ◌<◌, ◌≤◌, ◌+◌, List, [], ◌∷◌, ◌++◌, length, map, take, Option, Some, None, Result, Ok, Err, refl, sym, subst, ap, ◌∙◌, inl, inr, arith}
-use Rattle.std.specs.Prelude.{IfSome, slice_get}
+use Rattle.std.proofs.Common.{ℕ, zero, suc, ◌≡◌, ◌+◌, List, [], ◌∷◌, ◌++◌, map, take, Option, Some, None, Err, refl, sym, subst, ap, ◌∙◌, inl}
+use Rattle.std.specs.Prelude.{slice_get}
 use Rattle.std.specs.Option.{option_map}
-use Rattle.mig_io.specs.Counts.{Counts, Rose, NoneFell}
+use Rattle.mig_io.specs.Counts.{Counts}
 use Rattle.mig_io.specs.Holding.{Held, SameBut, placed}
-use Rattle.palmig_top.specs.declared.exit.Exit.{Exit}
-use Rattle.palmig_top.specs.declared.exit.Exit.TheVariants.{Done, Usage, Refused, Missing, ReadFault, SaveFault, OutFault, Memory}
+use Rattle.answers.specs.declared.exit.Exit.{Exit}
+use Rattle.answers.specs.declared.exit.Exit.TheVariants.{Done, Usage, Refused, Missing, ReadFault, SaveFault, OutFault, Memory}
 use Rattle.palmig_top.specs.declared.saves.NewFile.{NewFile}
 use Rattle.palmig_top.specs.Verdict.{File}
-use Rattle.palmig_top.specs.Answer.{StoppedAt, Partly, placed_all}
+use Rattle.palmig_top.specs.Answer.{placed_all}
 use Rattle.palmig_top.specs.Saving.{SavesOne, SavesAll, file_of}
 
 -- the first k files are in place, and the save of the next one failed

@@ -1,14 +1,17 @@
 -- What each answer of a call says of the words, the files and the sink.
-use Rattle.std.specs.Prelude.{ℕ, ◌≡◌, ◌≢◌, ◌⊎◌, List, [], ◌∷◌, ◌++◌, take, Option, Some, None, Result, Ok, Err, IfSome, slice_get}
+use Rattle.std.specs.Prelude.{ℕ, ◌≡◌, ◌≢◌, ◌⊎◌, List, [], ◌∷◌, ◌++◌, take, Option, Some, Result, Ok, Err, IfSome, slice_get}
 use Rattle.std.specs.Option.{option_map}
 use Rattle.mig_io.specs.Counts.{Counts, Rose, NoneFell}
 use Rattle.mig_io.specs.Holding.{Held, SameBut, placed}
-use Rattle.palmig_top.specs.declared.exit.Exit.{Exit}
-use Rattle.palmig_top.specs.declared.exit.Exit.TheVariants.{Done, Usage, Refused, Missing, ReadFault, SaveFault, OutFault, Memory}
-use Rattle.palmig_top.specs.declared.exit.Refusal.{Refusal}
-use Rattle.palmig_top.specs.declared.exit.Refusal.TheVariants.{Clash, Later}
-use Rattle.palmig_top.specs.declared.words.Command.{Command}
-use Rattle.palmig_top.specs.Verdict.{Outcome, File, command_or_refusal, judged, LoadsBoard, answer_report}
+use Rattle.answers.specs.declared.exit.Exit.{Exit}
+use Rattle.answers.specs.declared.exit.Exit.TheVariants.{Done, Usage, Refused, Missing, ReadFault, SaveFault, OutFault, Memory}
+use Rattle.answers.specs.declared.exit.Refusal.{Refusal}
+use Rattle.answers.specs.declared.exit.Refusal.TheVariants.{Clash}
+use Rattle.answers.specs.declared.words.Command.{Command}
+use Rattle.answers.specs.Commands.{command_or_refusal}
+use Rattle.answers.specs.Exits.{IsOfFiles}
+use Rattle.answers.specs.Reports.{answer_report}
+use Rattle.palmig_top.specs.Verdict.{Outcome, File, judged, LoadsFor}
 
 -- the words are a command that can be begun
 abbrev pub IsCommand : List (List ℕ) → Type 0
@@ -18,12 +21,16 @@ IsCommand words = (c : Command) × (command_or_refusal words ≡ Ok c)
 abbrev pub IsRefused : List (List ℕ) → Option Held → Exit → Type 0
 IsRefused words held e = IsCommand words × IfSome held (λ h. judged words h ≡ Err e)
 
+-- a clash is one of the words; every other refusal is the first one of a command that is begun, and no want of memory
+abbrev pub IsRightRefusal : List (List ℕ) → Option Held → Refusal → Type 0
+IsRightRefusal words held Clash = command_or_refusal words ≡ Err (Refused Clash)
+IsRightRefusal words held r = IsOfFiles r × IsRefused words held (Refused r)
+
 -- VERDICT. Usage and a clash come exactly where the words say so; every other answer but faults and want of memory is the verdict, where the files are told
 abbrev pub IsVerdict : List (List ℕ) → Option Held → Exit → Type 0
 IsVerdict words held Done = IsCommand words × IfSome held (λ h. (outcome : Outcome) × (judged words h ≡ Ok outcome))
 IsVerdict words held Usage = command_or_refusal words ≡ Err Usage
-IsVerdict words held (Refused Clash) = command_or_refusal words ≡ Err (Refused Clash)
-IsVerdict words held (Refused (Later f)) = IsRefused words held (Refused (Later f))
+IsVerdict words held (Refused r) = IsRightRefusal words held r
 IsVerdict words held (Missing f) = IsRefused words held (Missing f)
 IsVerdict words held (ReadFault f) = IsCommand words
 IsVerdict words held (SaveFault f) = IsCommand words
@@ -66,7 +73,7 @@ FilesAfter judge loads held after before now _ = after ≡ Some held
 
 -- a file that the command of these words loads, where every rule before its load holds
 abbrev pub Loads : List (List ℕ) → Held → List ℕ → Type 0
-Loads words held f = (c : Command) × (command_or_refusal words ≡ Ok c) × LoadsBoard held c.old f
+Loads words held f = (c : Command) × (command_or_refusal words ≡ Ok c) × LoadsFor c held f
 
 -- FILES. What is held after an answer, where it is told
 abbrev pub LeavesFiles : List (List ℕ) → Option Held → Option Held → Counts → Counts → Exit → Type 0

@@ -1,18 +1,20 @@
 -- The clauses of the top call.
-use Rattle.std.specs.Prelude.{ℕ, ◌≡◌, ◌≢◌, List, Option, Some, None, Ok, IfSome}
+use Rattle.std.specs.Prelude.{ℕ, ◌≡◌, List, Option, Ok, IfSome}
 use Rattle.mig_base.specs.declared.cells.ChipCells.{ChipCells}
 use Rattle.mig_base.specs.declared.nets.Net.{Net}
 use Rattle.mig_io.specs.Counts.{Counts, Rose}
 use Rattle.mig_io.specs.Holding.{Held}
 use Rattle.settle.specs.SameBehaviour.{IsSame}
 use Rattle.std.specs.Prelude.{map, length}
-use Rattle.palmig_top.specs.declared.exit.Exit.{Exit}
-use Rattle.palmig_top.specs.declared.exit.Exit.TheVariants.{Done, Usage, Refused, Missing, ReadFault, SaveFault, OutFault, Memory}
-use Rattle.palmig_top.specs.declared.words.Command.{Command}
+use Rattle.answers.specs.declared.exit.Exit.{Exit}
+use Rattle.answers.specs.declared.exit.Exit.TheVariants.{Done, OutFault, Memory}
+use Rattle.answers.specs.declared.words.Migration.{Migration}
+use Rattle.answers.specs.declared.words.Command.TheVariants.{Migrate}
+use Rattle.answers.specs.Commands.{command_or_refusal}
 use Rattle.palmig_top.specs.declared.parts.Parts.{Parts}
 use Rattle.palmig_top.specs.HeldBoard.{HoldsBoard}
-use Rattle.palmig_top.specs.Verdict.{command_or_refusal, new_chips, new_wiring}
-use Rattle.palmig_top.specs.Answer.{Answers, Replaced, IsCaused, LeavesFiles, HasReport, Sent, SentPart}
+use Rattle.palmig_top.specs.Verdict.{new_chips, new_wiring}
+use Rattle.palmig_top.specs.Answer.{Replaced, IsCaused, LeavesFiles, HasReport, Sent, SentPart}
 
 -- the words, what is told of the files before and after, and what the counts were
 pub record Call : Type 0 where
@@ -52,7 +54,7 @@ pub record Migrated (before after : Held) (old new : List ℕ) : Type 0 where
   pub wiring : new_net ≡ new_wiring old_parts
   pub cells : new_cells ≡ map (λ f. f.cells) (new_chips old_parts)
 
--- HEADLINE. what Done says of the bytes that were held before and are held after
+-- HEADLINE. what Done of a migration says of the bytes that were held before and are held after
 abbrev pub IsMigrated : Call → Exit → Type 0
 IsMigrated call answer =
-    answer ≡ Done → IfSome call.held (λ h. IfSome call.after (λ k. (c : Command) → command_or_refusal call.words ≡ Ok c → Migrated h k c.old c.new))
+    answer ≡ Done → IfSome call.held (λ h. IfSome call.after (λ k. (m : Migration) → command_or_refusal call.words ≡ Ok (Migrate m) → Migrated h k m.old m.new))

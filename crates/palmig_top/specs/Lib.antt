@@ -1,9 +1,7 @@
-pub mod Exits
 pub mod HeldBoard
 pub mod Verdict
 pub mod Answer
 pub mod Steps
-pub mod Commands
 pub mod Reading
 pub mod Saving
 pub mod Clauses

@@ -1,5 +1,5 @@
 -- What is prepared for saving.
-use Rattle.std.specs.Prelude.{ℕ, List, map, IsTrue}
+use Rattle.std.specs.Prelude.{map, IsTrue}
 use Rattle.mig_base.specs.DeviceTables.{is_v8}
 use Rattle.mig_base.specs.WellFormed.{IsWellFormed}
 use Rattle.new_board.specs.declared.types.FittedChip.{FittedChip}

@@ -3,8 +3,8 @@ use Rattle.std.specs.Prelude.{ℕ, ◌≡◌, List, Option, Some, Result, Ok, Er
 use Rattle.std.specs.Option.{option_map}
 use Rattle.mig_io.specs.Counts.{Counts}
 use Rattle.mig_io.specs.Holding.{Held, SameBut, placed}
-use Rattle.palmig_top.specs.declared.exit.Exit.{Exit}
-use Rattle.palmig_top.specs.declared.exit.Exit.TheVariants.{Done, Usage, Refused, Missing, ReadFault, SaveFault, OutFault, Memory}
+use Rattle.answers.specs.declared.exit.Exit.{Exit}
+use Rattle.answers.specs.declared.exit.Exit.TheVariants.{SaveFault, Memory}
 use Rattle.palmig_top.specs.declared.saves.NewFile.{NewFile}
 use Rattle.palmig_top.specs.Verdict.{File}
 use Rattle.palmig_top.specs.Answer.{StoppedAt, Partly, placed_all}

@@ -3,11 +3,9 @@ use Rattle.std.specs.Prelude.{ℕ, ◌≡◌, List, Option, Result, Ok, Err, IfS
 use Rattle.std.specs.declared.alloc.Global.{Global}
 use Rattle.mig_io.specs.Counts.{Counts, NoneFell}
 use Rattle.mig_io.specs.Holding.{Held}
-use Rattle.mig_base.specs.declared.cells.ChipError.{ChipError}
-use Rattle.mig_base.specs.declared.cells.ChipError.TheVariants as chip_error
-use Rattle.palmig_top.specs.declared.exit.Exit.{Exit}
-use Rattle.palmig_top.specs.declared.exit.Exit.TheVariants.{Done, Usage, Refused, Missing, ReadFault, SaveFault, OutFault, Memory}
-use Rattle.palmig_top.specs.declared.exit.Refusal.TheVariants.{Clash, Later}
+use Rattle.answers.specs.declared.exit.Exit.{Exit}
+use Rattle.answers.specs.declared.exit.Exit.TheVariants.{Done, Usage, Refused, Missing, ReadFault, SaveFault, OutFault, Memory}
+use Rattle.answers.specs.Exits.{IsOfFiles}
 use Rattle.palmig_top.specs.Verdict.{Outcome}
 use Rattle.palmig_top.specs.Answer.{IsCaused, FilesAfter}
 
@@ -15,8 +13,7 @@ use Rattle.palmig_top.specs.Answer.{IsCaused, FilesAfter}
 abbrev pub Fails : {Y : Type 0} → (Held → Result Y Exit) → (Held → List ℕ → Type 0) → Held → Exit → Type 0
 Fails judge loads held (ReadFault f) = loads held f
 Fails judge loads held (Missing f) = judge held ≡ Err (Missing f)
-Fails judge loads held (Refused (Later f)) = judge held ≡ Err (Refused (Later f))
-Fails judge loads held (Refused Clash) = ⊥
+Fails judge loads held (Refused r) = judge held ≡ Err (Refused r)
 Fails judge loads held Memory = Unit {0}
 Fails judge loads held Done = ⊥
 Fails judge loads held Usage = ⊥
@@ -31,8 +28,7 @@ Gives view judge loads held (Err e) = Fails judge loads held e
 abbrev pub IsLoadFailure : Exit → Type 0
 IsLoadFailure (ReadFault f) = Unit {0}
 IsLoadFailure (Missing f) = Unit {0}
-IsLoadFailure (Refused (Later f)) = Unit {0}
-IsLoadFailure (Refused Clash) = ⊥
+IsLoadFailure (Refused r) = IsOfFiles r
 IsLoadFailure Memory = Unit {0}
 IsLoadFailure Done = ⊥
 IsLoadFailure Usage = ⊥
@@ -50,7 +46,7 @@ pub record StepGives {X Y : Type 0} (view : X → Y) (judge : Held → Result Y 
 -- a step that needs no file: what it is told, or the refusal; want of memory aside
 abbrev pub Says : {X Y : Type 0} → (X → Y) → Result Y Exit → Result X Exit → Type 0
 Says view told (Ok x) = told ≡ Ok (view x)
-Says view told (Err (Refused (Later f))) = told ≡ Err (Refused (Later f))
+Says view told (Err (Refused r)) = IsOfFiles r × (told ≡ Err (Refused r))
 Says view told (Err Memory) = Unit {0}
 Says view told (Err _) = ⊥
 
@@ -58,17 +54,16 @@ Says view told (Err _) = ⊥
 abbrev pub VerdictOf : (Held → Result Outcome Exit) → Held → Exit → Type 0
 VerdictOf judge held Done = (outcome : Outcome) × (judge held ≡ Ok outcome)
 VerdictOf judge held (Missing f) = judge held ≡ Err (Missing f)
-VerdictOf judge held (Refused (Later f)) = judge held ≡ Err (Refused (Later f))
+VerdictOf judge held (Refused r) = judge held ≡ Err (Refused r)
 VerdictOf judge held (ReadFault f) = Unit {0}
 VerdictOf judge held (SaveFault f) = Unit {0}
 VerdictOf judge held Memory = Unit {0}
-VerdictOf judge held (Refused Clash) = ⊥
 VerdictOf judge held Usage = ⊥
 VerdictOf judge held OutFault = ⊥
 
 -- an answer that a command, once begun, can have
 abbrev pub IsOfCommand : Exit → Type 0
-IsOfCommand (Refused Clash) = ⊥
+IsOfCommand (Refused r) = IsOfFiles r
 IsOfCommand Usage = ⊥
 IsOfCommand OutFault = ⊥
 IsOfCommand _ = Unit {0}
@@ -101,10 +96,3 @@ pub record Finishes (judge : Held → Result Outcome Exit) (loads : Held → Lis
   pub kind : IsOfCommand answer
   pub verdict : IfSome held (λ h. VerdictOf judge h answer)
   pub files : IfSome held (λ h. FilesAfter judge loads h after before now answer)
-
--- the answer for a chip whose fuses make no cells
-abbrev pub exit_for_chip : List ℕ → ChipError → Exit
-exit_for_chip name chip_error.Memory = Memory
-exit_for_chip name (chip_error.Count found) = Refused (Later name)
-exit_for_chip name chip_error.ModeBits = Refused (Later name)
-exit_for_chip name (chip_error.Ac1InComplex pin) = Refused (Later name)

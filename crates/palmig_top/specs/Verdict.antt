@@ -1,43 +1,37 @@
 -- What a command should answer, save and report, by the words and by what is held before it.
-use Rattle.std.specs.Prelude.{ℕ, ◌≡◌, ◌⊎◌, ◌+◌, ◌&&◌, Bool, true, false, List, [], ◌∷◌, ◌++◌, length, map, nat_le, Option, Some, None, if◌then◌else◌, Result, Ok, Err, codes}
-use Rattle.std.specs.Str.{bytes_eq}
+use Rattle.std.specs.Prelude.{ℕ, ◌≡◌, ◌⊎◌, ◌&&◌, Bool, List, [], ◌∷◌, ◌++◌, length, map, nat_le, Option, Some, None, if◌then◌else◌, Result, Ok, Err, codes}
 use Rattle.std.specs.Fmt.{decimal}
 use Rattle.mig_base.specs.declared.kinds.Kind.{Kind}
 use Rattle.mig_base.specs.declared.cells.ChipCells.{ChipCells}
 use Rattle.mig_base.specs.declared.nets.Net.{Net}
 use Rattle.mig_base.specs.declared.nets.ChipLine.{ChipLine}
 use Rattle.mig_base.specs.Limits.{most_file_bytes}
-use Rattle.mig_base.specs.Names.{is_stem}
-use Rattle.mig_base.specs.PlainFuses.{plain_fuses}
+use Rattle.mig_base.specs.Names.{file_name_of}
+use Rattle.mig_base.specs.FuseText.{fuses_of_text}
 use Rattle.mig_base.specs.Cells.{cells_of}
-use Rattle.mig_base.specs.WrittenBoard.{plain_net, written_net, written_line}
+use Rattle.mig_base.specs.BoardText.{net_of_text}
+use Rattle.mig_base.specs.WrittenBoard.{written_net, written_line}
 use Rattle.mig_base.specs.WrittenFuses.{written_fuses}
 use Rattle.mig_base.specs.WrittenPlan.{written_plan}
 use Rattle.mig_base.specs.WrittenCells.{v8_fuses}
-use Rattle.mig_io.specs.Holding.{Held, placed}
+use Rattle.mig_io.specs.Holding.{Held}
 use Rattle.new_board.specs.declared.types.FittedChip.{FittedChip}
 use Rattle.new_board.specs.NewFiles.{fitted, new_net}
 use Rattle.new_board.specs.OneForOne.{old_board, same_chips, one_for_one}
 use Rattle.taken_boards.specs.TakenBoards.{is_taken_wiring, is_taken_form}
-use Rattle.palmig_top.specs.declared.exit.Exit.{Exit}
-use Rattle.palmig_top.specs.declared.exit.Exit.TheVariants.{Done, Usage, Refused, Missing, ReadFault, SaveFault, OutFault, Memory}
-use Rattle.palmig_top.specs.declared.exit.Refusal.{Refusal}
-use Rattle.palmig_top.specs.declared.exit.Refusal.TheVariants.{Clash, Later}
-use Rattle.palmig_top.specs.declared.words.Command.{Command}
+use Rattle.listing.specs.ListedChip.{listed}
+use Rattle.answers.specs.declared.exit.Exit.{Exit}
+use Rattle.answers.specs.declared.exit.Exit.TheVariants.{Refused, Missing}
+use Rattle.answers.specs.declared.exit.Refusal.{Refusal}
+use Rattle.answers.specs.declared.exit.Refusal.TheVariants.{Later, TooLong, Jed, Chip}
+use Rattle.answers.specs.declared.exit.Refusal.TheVariants as refusal
+use Rattle.answers.specs.declared.words.Command.{Command}
+use Rattle.answers.specs.declared.words.Command.TheVariants as command
+use Rattle.answers.specs.declared.words.Migration.{Migration}
+use Rattle.answers.specs.declared.words.Listing.{Listing}
+use Rattle.answers.specs.Commands.{command_or_refusal}
 use Rattle.palmig_top.specs.declared.parts.Parts.{Parts}
 use Rattle.palmig_top.specs.HeldBoard.{net_file, plan_file, jed_file}
-
-abbrev pub migration : List ℕ → List ℕ → List ℕ → Option Command
-migration verb old new =
-    if bytes_eq verb (codes "migrate") && is_stem old && is_stem new then Some (record { old = old; new = new }) else None
-
--- the words of a command: migrate OLD NEW
-abbrev pub command_of : List (List ℕ) → Option Command
-command_of [] = None
-command_of (verb ∷ []) = None
-command_of (verb ∷ old ∷ []) = None
-command_of (verb ∷ old ∷ new ∷ []) = migration verb old new
-command_of (verb ∷ old ∷ new ∷ more ∷ rest) = None
 
 -- a step of a chain of refusals
 infixl 10 ◌>>=◌
@@ -45,48 +39,42 @@ abbrev pub ◌>>=◌ : {A B : Type 0} → Result A Exit → (A → Result B Exit
 (Ok x) >>= f = f x
 (Err e) >>= f = Err e
 
-abbrev pub checked_command : Option Command → Result Command Exit
-checked_command None = Err Usage
-checked_command (Some c) = if bytes_eq c.old c.new then Err (Refused Clash) else Ok c
-
--- the command, or what the words alone refuse
-abbrev pub command_or_refusal : List (List ℕ) → Result Command Exit
-command_or_refusal words = checked_command (command_of words)
-
--- a layer's answer; its refusal is told with the file
-abbrev pub or_later : {A E : Type 0} → List ℕ → Result A E → Result A Exit
-or_later name (Ok x) = Ok x
-or_later name (Err e) = Err (Refused (Later name))
+-- a layer's answer; its error is the command's refusal
+abbrev pub or_refused : {A E : Type 0} → (E → Refusal) → Result A E → Result A Exit
+or_refused refusal (Ok x) = Ok x
+or_refused refusal (Err e) = Err (Refused (refusal e))
 
 abbrev pub only_if : {A : Type 0} → Bool → A → Exit → Result A Exit
 only_if test x e = if test then Ok x else Err e
 
 -- a file that is held, of at most so many bytes
-abbrev pub within_at : ℕ → Exit → List ℕ → Option (List ℕ) → Result (List ℕ) Exit
-within_at most too_long name None = Err (Missing name)
-within_at most too_long name (Some bytes) = only_if (nat_le (length bytes) most) bytes too_long
+abbrev pub within_at : ℕ → List ℕ → Option (List ℕ) → Result (List ℕ) Exit
+within_at most name None = Err (Missing name)
+within_at most name (Some bytes) = only_if (nat_le (length bytes) most) bytes (Refused (TooLong name))
 
 abbrev pub loaded : Held → List ℕ → Result (List ℕ) Exit
-loaded held name = within_at most_file_bytes (Refused (Later name)) name (held name)
+loaded held name = within_at most_file_bytes name (held name)
 
--- the wiring of PAL16 chips that a text of the plain form says
+-- the wiring that a board text says
 abbrev pub wiring_of : List ℕ → List ℕ → Result Net Exit
-wiring_of name bytes = or_later name (plain_net bytes) >>= λ net. only_if (is_taken_wiring net) net (Refused (Later name))
+wiring_of name bytes = or_refused (refusal.Net name) (net_of_text bytes)
 
--- the cells that a fuse text of the plain form makes
-abbrev pub chip_of : List ℕ → ChipLine → List ℕ → Result ChipCells Exit
-chip_of name line bytes = or_later name (plain_fuses bytes) >>= λ bits. or_later name (cells_of line.kind bits)
+-- the cells that a fuse text makes in a chip of this kind
+abbrev pub chip_of : List ℕ → Kind → List ℕ → Result ChipCells Exit
+chip_of name kind bytes = or_refused (Jed name) (fuses_of_text bytes) >>= λ bits. or_refused (Chip name) (cells_of kind bits)
 
 abbrev pub wiring_held : Held → List ℕ → Result Net Exit
 wiring_held held stem = loaded held (net_file stem) >>= λ bytes. wiring_of (net_file stem) bytes
 
-abbrev pub chip_held : Held → List ℕ → ChipLine → Result ChipCells Exit
-chip_held held stem line = loaded held (jed_file stem line.name) >>= λ bytes. chip_of (jed_file stem line.name) line bytes
+-- the chip in a file
+abbrev pub chip_held : Held → List ℕ → Kind → Result ChipCells Exit
+chip_held held name kind = loaded held name >>= λ bytes. chip_of name kind bytes
 
 -- the cells of each chip, or the first refusal
 abbrev pub chips_held : Held → List ℕ → List ChipLine → Result (List ChipCells) Exit
 chips_held held stem [] = Ok []
-chips_held held stem (line ∷ lines) = chip_held held stem line >>= λ cells. chips_held held stem lines >>= λ chips. Ok (cells ∷ chips)
+chips_held held stem (line ∷ lines) =
+    chip_held held (jed_file stem line.name) line.kind >>= λ cells. chips_held held stem lines >>= λ chips. Ok (cells ∷ chips)
 
 -- wiring and chips
 abbrev pub parts_held : Held → List ℕ → Result Parts Exit
@@ -96,7 +84,8 @@ parts_held held stem = wiring_held held stem >>= λ net. chips_held held stem ne
 abbrev pub LoadsChips : Held → List ℕ → List ChipLine → List ℕ → Type 0
 LoadsChips held stem [] f = ⊥
 LoadsChips held stem (line ∷ lines) f =
-    (f ≡ jed_file stem line.name) ⊎ ((cells : ChipCells) × (chip_held held stem line ≡ Ok cells) × LoadsChips held stem lines f)
+    (f ≡ jed_file stem line.name)
+    ⊎ ((cells : ChipCells) × (chip_held held (jed_file stem line.name) line.kind ≡ Ok cells) × LoadsChips held stem lines f)
 
 -- the files that are loaded for a board: each one, where every rule before its load holds
 abbrev pub LoadsBoard : Held → List ℕ → List ℕ → Type 0
@@ -139,32 +128,39 @@ pub record Outcome : Type 0 where
 abbrev pub outcome_of : List ℕ → Parts → Outcome
 outcome_of new parts = record { saves = files_of new parts; report = done_report parts }
 
--- what is done with a board of the form that is migrated so far
-abbrev pub outcome_or_later : Command → Parts → Result Outcome Exit
-outcome_or_later c parts = only_if (is_taken_form parts.net parts.chips) (outcome_of c.new parts) (Refused (Later (net_file c.old)))
+-- a board that is migrated so far
+abbrev pub is_taken_board : Parts → Bool
+is_taken_board parts = is_taken_wiring parts.net && is_taken_form parts.net parts.chips
 
-abbrev pub judged_migration : Command → Held → Result Outcome Exit
-judged_migration c held = parts_held held c.old >>= λ parts. outcome_or_later c parts
+-- what is done with such a board; every other one is left for later
+abbrev pub outcome_or_later : Migration → Parts → Result Outcome Exit
+outcome_or_later m parts = only_if (is_taken_board parts) (outcome_of m.new parts) (Refused (Later (net_file m.old)))
+
+-- migrate: the board is read whole, then it is seen whether it is migrated so far
+abbrev pub judged_migration : Migration → Held → Result Outcome Exit
+judged_migration m held = parts_held held m.old >>= λ parts. outcome_or_later m parts
+
+-- the file that is listed
+abbrev pub listed_file : Listing → List ℕ
+listed_file l = file_name_of l.stem l.chip (codes "jed")
+
+-- nothing is saved, and the report is the chip's listing
+abbrev pub listed_outcome : ChipCells → Outcome
+listed_outcome cells = record { saves = []; report = listed cells }
+
+-- list: one file
+abbrev pub judged_listing : Listing → Held → Result Outcome Exit
+judged_listing l held = chip_held held (listed_file l) l.kind >>= λ cells. Ok (listed_outcome cells)
+
+abbrev pub judged_command : Command → Held → Result Outcome Exit
+judged_command (command.Migrate m) held = judged_migration m held
+judged_command (command.List l) held = judged_listing l held
+
+-- the files that a command loads: each one, where every rule before its load holds
+abbrev pub LoadsFor : Command → Held → List ℕ → Type 0
+LoadsFor (command.Migrate m) held f = LoadsBoard held m.old f
+LoadsFor (command.List l) held f = f ≡ listed_file l
 
 -- what the call should save and report, or the first refusal
 abbrev pub judged : List (List ℕ) → Held → Result Outcome Exit
-judged words held = command_or_refusal words >>= λ c. judged_migration c held
-
--- the usage line
-abbrev pub usage : List ℕ
-usage = codes "usage: palmig migrate OLD NEW [PLAN] | compare A B | sim BOARD SCRIPT | list FILE KIND | check BOARD | make N NEW\n"
-
-abbrev pub refusal_words : Refusal → List (List ℕ)
-refusal_words Clash = codes "refused" ∷ codes "clash" ∷ []
-refusal_words (Later f) = codes "refused" ∷ codes "later" ∷ f ∷ []
-
--- the report of an answer other than Done
-abbrev pub answer_report : Exit → List ℕ
-answer_report Done = []
-answer_report Usage = usage
-answer_report (Refused r) = written_line (refusal_words r)
-answer_report (Missing f) = written_line (codes "missing" ∷ f ∷ [])
-answer_report (ReadFault f) = written_line (codes "readfault" ∷ f ∷ [])
-answer_report (SaveFault f) = written_line (codes "savefault" ∷ f ∷ [])
-answer_report OutFault = []
-answer_report Memory = []
+judged words held = command_or_refusal words >>= λ c. judged_command c held

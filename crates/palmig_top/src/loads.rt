@@ -1,26 +1,24 @@
-ghost use Rattle.std.specs.Prelude.{◌≡◌, ◌≤◌, ◌++◌, ◌∷◌, [], ℕ, List, Option, IfOk, IsTrue, MatchResult, vec_len};
+ghost use Rattle.std.specs.Prelude.{◌≡◌, ◌≤◌, ◌++◌, ◌∷◌, [], ℕ, List, Option, IfOk, MatchResult, vec_len};
 ghost use Rattle.std.specs.Option.{option_map};
-ghost use Rattle.std.specs.List.{list_all};
-ghost use Rattle.mig_base.specs.DeviceTables.{is_pal16};
 ghost use Rattle.mig_base.specs.Names.{file_name_of};
 ghost use Rattle.mig_base.specs.Limits.{most_file_bytes};
 ghost use Rattle.palmig_top.specs.Verdict.{loaded, wiring_of, wiring_held, chip_of, chip_held, chips_held, parts_held, LoadsChips, LoadsBoard};
 ghost use Rattle.palmig_top.specs.HeldBoard.{net_file, jed_file};
-ghost use Rattle.palmig_top.specs.Steps.{StepGives, Says, exit_for_chip};
-ghost use Rattle.taken_boards.specs.TakenBoards.{IsMade, AreMade};
-ghost use Rattle.palmig_top.specs.Reading.{IsReadWiring, IsReadBoard};
+ghost use Rattle.palmig_top.specs.Steps.{StepGives, Says};
+ghost use Rattle.taken_boards.specs.TakenBoards.{AreMade};
+ghost use Rattle.palmig_top.specs.Reading.{IsReadWiring, IsReadCells, IsReadBoard};
 
-use crate::{Exit, Parts, Refusal};
+use crate::Parts;
+use crate::devices::cells;
+use answers::{Exit, Refusal};
 use jed_text::read_jed;
 use mig_base::{
-    ChipCells, ChipError, ChipLine, FileName, Items, JedError, MOST_FILE_BYTES, Name, Net,
+    ChipCells, ChipError, ChipLine, FileName, Items, JedError, Kind, MOST_FILE_BYTES, Name, Net,
     NetError, Stem, file_name,
 };
 use mig_io::{Files, LoadError};
 use net_text::read_net;
-use pal16::cells;
 use std::alloc::Global;
-use taken_boards::is_taken_wiring;
 
 /// The name of a file of a board.
 pub fn named(
@@ -55,7 +53,7 @@ fn load<F: Files>(alloc: Global, files: &mut F, name: FileName) -> Result<Loaded
             if bytes.len() <= MOST_FILE_BYTES {
                 Ok(Loaded { name, bytes })
             } else {
-                Err(Exit::Refused(Refusal::Later(name)))
+                Err(Exit::Refused(Refusal::TooLong(name)))
             }
         }
         Err(LoadError::Missing) => Err(Exit::Missing(name)),
@@ -64,78 +62,73 @@ fn load<F: Files>(alloc: Global, files: &mut F, name: FileName) -> Result<Loaded
     }
 }
 
-/// The wiring in a board file of the plain form.
+/// The wiring in a board file.
 fn wiring_in(alloc: Global, file: Loaded) -> Result<Net, Exit>
     requires { vec_len file.bytes ≤ most_file_bytes }
     ensures says { Says (λ net. net) (wiring_of file.name file.bytes.items) result }
     ensures read { IfOk result (λ net. IsReadWiring net) }
 {
     match read_net(alloc, &file.bytes) {
-        Ok(net) => {
-            if is_taken_wiring(&net) {
-                Ok(net)
-            } else {
-                Err(Exit::Refused(Refusal::Later(file.name)))
-            }
-        }
+        Ok(net) => Ok(net),
         Err(NetError::Memory) => Err(Exit::Memory),
-        Err(_) => Err(Exit::Refused(Refusal::Later(file.name))),
+        Err(e) => Err(Exit::Refused(Refusal::Net(file.name, e))),
     }
 }
 
-/// What a chip that has no cells answers.
-fn chip_exit(name: FileName, error: ChipError) -> Exit
-    ensures { result ≡ exit_for_chip name error }
-{
-    match error {
-        ChipError::Memory => Exit::Memory,
-        ChipError::Count { .. } | ChipError::ModeBits | ChipError::Ac1InComplex { .. } => {
-            Exit::Refused(Refusal::Later(name))
-        }
-    }
-}
-
-/// The cells of a chip in a fuse file of the plain form.
-fn chip_in(alloc: Global, file: Loaded, line: &ChipLine) -> Result<ChipCells, Exit>
-    requires { IsTrue (is_pal16 line.now.kind) }
-    ensures says { Says (λ cells. cells) (chip_of file.name line.now file.bytes.items) result }
-    ensures read { IfOk result (λ cells. IsMade line.now cells) }
+/// The cells of a chip of this kind in a fuse file.
+fn chip_in(alloc: Global, file: Loaded, kind: Kind) -> Result<ChipCells, Exit>
+    ensures says { Says (λ cells. cells) (chip_of file.name kind file.bytes.items) result }
+    ensures read { IfOk result (λ cells. IsReadCells kind cells) }
 {
     let fuses = match read_jed(alloc, &file.bytes) {
         Ok(fuses) => fuses,
         Err(JedError::Memory) => return Err(Exit::Memory),
-        Err(_) => return Err(Exit::Refused(Refusal::Later(file.name))),
+        Err(e) => return Err(Exit::Refused(Refusal::Jed(file.name, e))),
     };
-    match cells(alloc, line.kind, &fuses) {
+    match cells(alloc, kind, &fuses) {
         Ok(cells) => Ok(cells),
-        Err(e) => Err(chip_exit(file.name, e)),
+        Err(ChipError::Memory) => Err(Exit::Memory),
+        Err(e) => Err(Exit::Refused(Refusal::Chip(file.name, e))),
     }
 }
 
 /// The wiring of a board.
-pub fn read_wiring<F: Files>(alloc: Global, files: &mut F, old: &Stem) -> Result<Net, Exit>
-    ensures step { StepGives (λ net. net) (λ h. wiring_held h old.now) (λ h f. f ≡ net_file old.now) (F.held files.old) (F.held files.new) (F.counts files.old) (F.counts files.new) result }
+pub fn read_wiring<F: Files>(alloc: Global, files: &mut F, stem: &Stem) -> Result<Net, Exit>
+    ensures step { StepGives (λ net. net) (λ h. wiring_held h stem.now) (λ h f. f ≡ net_file stem.now) (F.held files.old) (F.held files.new) (F.counts files.old) (F.counts files.new) result }
     ensures read { IfOk result (λ net. IsReadWiring net) }
 {
-    let name = named(alloc, old, None, "net")?;
+    let name = named(alloc, stem, None, "net")?;
     let file = load(alloc, files, name)?;
     wiring_in(alloc, file)
 }
 
-/// The cells of a chip of a board.
+/// The cells of the chip of this kind in the file of this name.
 pub fn read_chip<F: Files>(
     alloc: Global,
     files: &mut F,
-    old: &Stem,
+    name: FileName,
+    kind: Kind,
+) -> Result<ChipCells, Exit>
+    ensures step { StepGives (λ cells. cells) (λ h. chip_held h name kind) (λ h f. f ≡ name) (F.held files.old) (F.held files.new) (F.counts files.old) (F.counts files.new) result }
+    ensures read { IfOk result (λ cells. IsReadCells kind cells) }
+{
+    let file = load(alloc, files, name)?;
+    chip_in(alloc, file, kind)
+}
+
+/// The cells of a chip of a board.
+fn read_chip_of<F: Files>(
+    alloc: Global,
+    files: &mut F,
+    stem: &Stem,
     line: &ChipLine,
 ) -> Result<ChipCells, Exit>
-    requires { IsTrue (is_pal16 line.now.kind) }
-    ensures step { StepGives (λ cells. cells) (λ h. chip_held h old.now line.now) (λ h f. f ≡ jed_file old.now line.now.name) (F.held files.old) (F.held files.new) (F.counts files.old) (F.counts files.new) result }
-    ensures read { IfOk result (λ cells. IsMade line.now cells) }
+    ensures step { StepGives (λ cells. cells) (λ h. chip_held h (jed_file stem.now line.now.name) line.now.kind) (λ h f. f ≡ jed_file stem.now line.now.name)
+        (F.held files.old) (F.held files.new) (F.counts files.old) (F.counts files.new) result }
+    ensures read { IfOk result (λ cells. IsReadCells line.now.kind cells) }
 {
-    let name = named(alloc, old, Some(&line.name), "jed")?;
-    let file = load(alloc, files, name)?;
-    chip_in(alloc, file, line)
+    let name = named(alloc, stem, Some(&line.name), "jed")?;
+    read_chip(alloc, files, name, line.kind)
 }
 
 /// One more chip, behind the others.
@@ -152,28 +145,27 @@ fn add_chip(chips: &mut Vec<ChipCells>, cells: ChipCells) -> Result<(), Exit>
 pub fn read_chips<F: Files>(
     alloc: Global,
     files: &mut F,
-    old: &Stem,
+    stem: &Stem,
     lines: &[ChipLine],
 ) -> Result<Vec<ChipCells>, Exit>
-    requires { IsTrue (list_all (λ l. is_pal16 l.kind) lines.now) }
-    ensures step { StepGives (λ v. v.items) (λ h. chips_held h old.now lines.now) (λ h f. LoadsChips h old.now lines.now f) (F.held files.old) (F.held files.new) (F.counts files.old) (F.counts files.new) result }
+    ensures step { StepGives (λ v. v.items) (λ h. chips_held h stem.now lines.now) (λ h f. LoadsChips h stem.now lines.now f) (F.held files.old) (F.held files.new) (F.counts files.old) (F.counts files.new) result }
     ensures read { IfOk result (λ v. AreMade lines.now v.items) }
 {
     let mut chips = Vec::new(alloc);
     for line in lines {
-        let cells = read_chip(alloc, files, old, line)?;
+        let cells = read_chip_of(alloc, files, stem, line)?;
         add_chip(&mut chips, cells)?;
     }
     Ok(chips)
 }
 
 /// The wiring and the chips of a board.
-pub fn read_parts<F: Files>(alloc: Global, files: &mut F, old: &Stem) -> Result<Parts, Exit>
-    ensures step { StepGives (λ p. p) (λ h. parts_held h old.now) (λ h f. LoadsBoard h old.now f) (F.held files.old) (F.held files.new) (F.counts files.old) (F.counts files.new) result }
+pub fn read_parts<F: Files>(alloc: Global, files: &mut F, stem: &Stem) -> Result<Parts, Exit>
+    ensures step { StepGives (λ p. p) (λ h. parts_held h stem.now) (λ h f. LoadsBoard h stem.now f) (F.held files.old) (F.held files.new) (F.counts files.old) (F.counts files.new) result }
     ensures read { IfOk result (λ p. IsReadBoard p) }
 {
-    let net = read_wiring(alloc, files, old)?;
-    let chips = read_chips(alloc, files, old, net.chips.items())?;
+    let net = read_wiring(alloc, files, stem)?;
+    let chips = read_chips(alloc, files, stem, net.chips.items())?;
     Ok(Parts {
         net,
         chips: Items::new(chips),

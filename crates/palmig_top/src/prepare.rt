@@ -1,22 +1,22 @@
-ghost use Rattle.std.specs.Prelude.{◌≡◌, ◌++◌, ◌∷◌, [], ℕ, List, IsTrue, true, MatchResult, length, map};
+ghost use Rattle.std.specs.Prelude.{◌≡◌, ◌++◌, ◌∷◌, [], ℕ, List, true, MatchResult, length, map};
 ghost use Rattle.std.specs.List.{AllByRecursion};
 ghost use Rattle.mig_base.specs.Boards.{circuit as circuit_for};
 ghost use Rattle.mig_base.specs.WrittenBoard.{written_net, IsWritable};
 ghost use Rattle.mig_base.specs.WrittenPlan.{written_plan};
 ghost use Rattle.mig_base.specs.WrittenFuses.{written_fuses};
 ghost use Rattle.mig_base.specs.WrittenCells.{v8_fuses};
-ghost use Rattle.taken_boards.specs.TakenBoards.{is_taken_form as is_taken_form_board};
 ghost use Rattle.palmig_top.specs.HeldBoard.{net_file, plan_file};
-ghost use Rattle.palmig_top.specs.Verdict.{judged_migration, outcome_or_later, outcome_of, fuse_file as file_for_chip, done_line, LoadsBoard};
+ghost use Rattle.palmig_top.specs.Verdict.{judged_migration, outcome_or_later, outcome_of, is_taken_board, fuse_file as file_for_chip, done_line, LoadsBoard};
 ghost use Rattle.palmig_top.specs.Steps.{StepGives, Says};
 ghost use Rattle.palmig_top.specs.Reading.{IsReadBoard};
 ghost use Rattle.palmig_top.specs.Saving.{file_of};
 ghost use Rattle.palmig_top.specs.Preparing.{outcome_in, IsWritableChip};
 
 use crate::loads::{named, read_parts};
-use crate::{Command, Exit, NewFile, Parts, Refusal};
-use board::circuit_of;
+use crate::{NewFile, Parts};
+use answers::{Exit, Migration, Refusal};
 use build::rebuild;
+use equations::circuit_of;
 use jed_write::jed_bytes;
 use mig_base::{Circuit, FileName, Items, NoMemory, Stem};
 use mig_io::Files;
@@ -24,7 +24,7 @@ use net_text::write_net;
 use new_board::{FittedChip, Rebuilt};
 use plan_text::write_plan;
 use std::alloc::{AllocError, Global};
-use taken_boards::is_taken_form;
+use taken_boards::{is_taken_form, is_taken_wiring};
 use v8::fuses_of;
 
 /// What a command saves and reports where all goes well.
@@ -115,7 +115,7 @@ fn done_report(alloc: Global, old: usize, new: usize) -> Result<Vec<u8>, AllocEr
 /// The new board's files and the report.
 fn rebuilt(alloc: Global, new: &Stem, parts: &Parts, circuit: &Circuit) -> Result<Prepared, Exit>
     requires read { IsReadBoard parts.now }
-    requires form { is_taken_form_board parts.now.net parts.now.chips ≡ true }
+    requires taken { is_taken_board parts.now ≡ true }
     requires circuit { circuit.now ≡ circuit_for parts.now.net parts.now.chips }
     ensures { MatchResult result (λ p. outcome_in p ≡ outcome_of new.now parts.now) (λ e. e ≡ Exit.Memory) }
 {
@@ -133,25 +133,37 @@ fn rebuilt(alloc: Global, new: &Stem, parts: &Parts, circuit: &Circuit) -> Resul
     })
 }
 
-/// The new board's files and the report, or why the board is not taken.
-fn prepared_of(alloc: Global, command: &Command, parts: Parts) -> Result<Prepared, Exit>
+/// Whether a board is migrated so far. The circuit is that of the board.
+fn is_taken(parts: &Parts, circuit: &Circuit) -> bool
+    requires { circuit.now ≡ circuit_for parts.now.net parts.now.chips }
+    ensures { result ≡ is_taken_board parts.now }
+{
+    is_taken_wiring(&parts.net) && is_taken_form(&parts.net, circuit)
+}
+
+/// The new board's files and the report, or why the board is not migrated.
+fn prepared_of(alloc: Global, migration: &Migration, parts: Parts) -> Result<Prepared, Exit>
     requires { IsReadBoard parts }
-    ensures { Says outcome_in (outcome_or_later command.now parts) result }
+    ensures { Says outcome_in (outcome_or_later migration.now parts) result }
 {
     let Ok(circuit) = circuit_of(alloc, &parts.net, parts.chips.items()) else {
         return Err(Exit::Memory);
     };
-    if !is_taken_form(&parts.net, &circuit) {
-        let name = named(alloc, &command.old, None, "net")?;
+    if !is_taken(&parts, &circuit) {
+        let name = named(alloc, &migration.old, None, "net")?;
         return Err(Exit::Refused(Refusal::Later(name)));
     }
-    rebuilt(alloc, &command.new, &parts, &circuit)
+    rebuilt(alloc, &migration.new, &parts, &circuit)
 }
 
 /// Loads the old board and prepares the new one.
-pub fn prepare<F: Files>(alloc: Global, files: &mut F, command: &Command) -> Result<Prepared, Exit>
-    ensures { StepGives outcome_in (λ h. judged_migration command.now h) (λ h f. LoadsBoard h command.now.old f) (F.held files.old) (F.held files.new) (F.counts files.old) (F.counts files.new) result }
+pub fn prepare_migration<F: Files>(
+    alloc: Global,
+    files: &mut F,
+    migration: &Migration,
+) -> Result<Prepared, Exit>
+    ensures { StepGives outcome_in (λ h. judged_migration migration.now h) (λ h f. LoadsBoard h migration.now.old f) (F.held files.old) (F.held files.new) (F.counts files.old) (F.counts files.new) result }
 {
-    let parts = read_parts(alloc, files, &command.old)?;
-    prepared_of(alloc, command, parts)
+    let parts = read_parts(alloc, files, &migration.old)?;
+    prepared_of(alloc, migration, parts)
 }

@@ -3,7 +3,7 @@ ghost use Rattle.mig_io.specs.Counts.{NoneFell};
 ghost use Rattle.palmig_top.specs.Answer.{IsCaused};
 ghost use Rattle.palmig_top.specs.Saving.{SavesOne, SavesAll, file_of};
 
-use crate::Exit;
+use answers::Exit;
 use mig_base::FileName;
 use mig_io::{Files, SaveError};
 use std::alloc::Global;

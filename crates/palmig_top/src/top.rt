@@ -1,22 +1,33 @@
 ghost use Rattle.std.specs.Prelude.{◌≡◌, ◌⊎◌, ℕ, List, IfErr, IfSome, map};
-ghost use Rattle.palmig_top.specs.Verdict.{judged_migration, LoadsBoard, answer_report};
+ghost use Rattle.answers.specs.Reports.{answer_report};
+ghost use Rattle.palmig_top.specs.Verdict.{judged_command, LoadsFor};
 ghost use Rattle.palmig_top.specs.Answer.{Answers, HasReport, IsVerdict};
-ghost use Rattle.palmig_top.specs.Steps.{Finishes, IsFailure, ReportOf, exit_of};
+ghost use Rattle.palmig_top.specs.Steps.{StepGives, Finishes, IsFailure, ReportOf, exit_of};
+ghost use Rattle.palmig_top.specs.Preparing.{outcome_in};
 ghost use Rattle.palmig_top.specs.Clauses.{IsCausedIn, LeavesFilesIn, Reports, IsMigrated};
 
-use crate::prepare::prepare;
-use crate::report::report;
+use crate::listed::prepare_listing;
+use crate::prepare::{Prepared, prepare_migration};
 use crate::saves::save_all;
-use crate::words::read_words;
-use crate::{Command, Exit};
+use answers::{Command, Exit, read_words, report};
 use mig_io::{Files, PutError, Sink};
 use std::alloc::Global;
 
-/// Migrates a board, and gives the report.
-fn migrate<F: Files>(alloc: Global, files: &mut F, command: &Command) -> Result<Vec<u8>, Exit>
-    ensures done { Finishes (λ h. judged_migration command.now h) (λ h f. LoadsBoard h command.now.old f) (F.held files.old) (F.held files.new) (F.counts files.old) (F.counts files.new) (exit_of result) }
+/// Loads what a command needs, and prepares what it saves and reports.
+fn prepare<F: Files>(alloc: Global, files: &mut F, command: &Command) -> Result<Prepared, Exit>
+    ensures { StepGives outcome_in (λ h. judged_command command.now h) (λ h f. LoadsFor command.now h f) (F.held files.old) (F.held files.new) (F.counts files.old) (F.counts files.new) result }
+{
+    match command {
+        Command::Migrate(migration) => prepare_migration(alloc, files, migration),
+        Command::List(listing) => prepare_listing(alloc, files, listing),
+    }
+}
+
+/// Carries out a command, and gives the report.
+fn perform<F: Files>(alloc: Global, files: &mut F, command: &Command) -> Result<Vec<u8>, Exit>
+    ensures done { Finishes (λ h. judged_command command.now h) (λ h f. LoadsFor command.now h f) (F.held files.old) (F.held files.new) (F.counts files.old) (F.counts files.new) (exit_of result) }
     ensures failure { IfErr result (λ e. IsFailure e) }
-    ensures report { IfSome (F.held files.old) (λ h. ReportOf (λ k. judged_migration command.now k) h result) }
+    ensures report { IfSome (F.held files.old) (λ h. ReportOf (λ k. judged_command command.now k) h result) }
 {
     let prepared = prepare(alloc, files, command)?;
     save_all(alloc, files, prepared.saves.items())?;
@@ -52,7 +63,7 @@ fn answer<F: Files>(alloc: Global, words: &[&str], files: &mut F) -> Answered
         Ok(command) => command,
         Err(e) => return reported(alloc, e),
     };
-    match migrate(alloc, files, &command) {
+    match perform(alloc, files, &command) {
         Ok(text) => Answered {
             exit: Exit::Done,
             text,

@@ -5,5 +5,5 @@ use Rattle.palmig_top.proofs.loads.read_chips.Given as goal
 
 abbrev pub invariant-loop-line : goal.invariant-loop-line
 invariant-loop-line g l =
-    ChipsSoFar (g.F.Files.held l.initial.files) (g.F.Files.held l.files) (g.F.Files.counts l.initial.files) (g.F.Files.counts l.files) l.old l.lines (drop l.line-index l.lines) l.chips.items
+    ChipsSoFar (g.F.Files.held l.initial.files) (g.F.Files.held l.files) (g.F.Files.counts l.initial.files) (g.F.Files.counts l.files) l.stem l.lines (drop l.line-index l.lines) l.chips.items
     × AreMade (take l.line-index l.lines) l.chips.items

@@ -1,4 +1,4 @@
-use Rattle.std.proofs.Common.{ℕ, List, ◌≡◌, ◌∙◌, ◌∷◌, ◌++◌, [], MatchResult, subst, ap, map, sym}
+use Rattle.std.proofs.Common.{map}
 use Rattle.palmig_top.specs.Saving.{file_of}
 use Rattle.palmig_top.proofs.NewFilesMade.{file-added}
 use Rattle.palmig_top.proofs.prepare.add_chip_file.Goals as goal

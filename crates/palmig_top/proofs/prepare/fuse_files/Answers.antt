@@ -1,9 +1,7 @@
-use Rattle.std.proofs.Common.{ℕ, List, ◌≡◌, ◌∙◌, ◌+◌, ◌∷◌, ◌++◌, [], sym, subst, ap, arith, take, map}
+use Rattle.std.proofs.Common.{◌≡◌, ◌∙◌, ◌+◌, ◌∷◌, ◌++◌, [], sym, subst, ap, arith, take, map}
 use Rattle.std.proofs.lemmas.List.{take_more}
 use Rattle.mig_base.proofs.ListLaws.{all-at}
 use Rattle.new_board.specs.declared.types.FittedChip.{FittedChip}
-use Rattle.palmig_top.specs.Verdict.{File}
-use Rattle.palmig_top.specs.Verdict.{fuse_file as file_for_chip}
 use Rattle.palmig_top.specs.Saving.{file_of}
 use Rattle.palmig_top.specs.Preparing.{IsWritableChip}
 use Rattle.palmig_top.proofs.NewFilesMade.{files-more}

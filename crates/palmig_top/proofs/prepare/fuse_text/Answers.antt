@@ -1,5 +1,3 @@
-use Rattle.std.proofs.Common.{List, ◌≡◌, ◌∙◌, Bool, Result, ap}
-use Rattle.std.specs.Prelude.{IfOk}
 use Rattle.palmig_top.proofs.NewFilesHeld.{right-count}
 use Rattle.palmig_top.proofs.NewFilesMade.{fuse-text-made}
 use Rattle.palmig_top.proofs.prepare.fuse_text.Goals as goal

@@ -1,11 +1,9 @@
-use Rattle.std.proofs.Common.{ℕ, List, ◌≡◌, ◌∙◌, ap, sym, map, length}
+use Rattle.std.proofs.Common.{List, ◌∙◌, ap, sym, map, length}
 use Rattle.mig_base.specs.declared.cells.ChipCells.{ChipCells}
 use Rattle.mig_base.specs.Boards.{circuit as circuit_for}
-use Rattle.new_board.specs.declared.types.FittedChip.{FittedChip}
 use Rattle.new_board.specs.NewFiles.{fitted, new_net}
 use Rattle.new_board.specs.OneForOne.{old_board, same_chips, one_for_one}
 use Rattle.palmig_top.specs.declared.saves.NewFile.{NewFile}
-use Rattle.palmig_top.specs.Verdict.{done_line}
 use Rattle.palmig_top.specs.Saving.{file_of}
 use Rattle.palmig_top.proofs.HeldParts.{read-writable}
 use Rattle.palmig_top.proofs.NewFilesMade.{read-as-many, writable-chips, writable-wiring, outcome-made, built-from}
@@ -24,11 +22,11 @@ pub rebuild-requires-clause-circuit : goal.rebuild-requires-clause-circuit
 rebuild-requires-clause-circuit c = c.requires.circuit ∙ ap (circuit_for c.args.parts.now.net) (sym c.items.ensures)
 
 pub new_files-requires-clause-chips : goal.new_files-requires-clause-chips
-new_files-requires-clause-chips c = writable-chips c.args.parts.now c.requires.read c.requires.form c.in-Ok.made.chips
+new_files-requires-clause-chips c = writable-chips c.args.parts.now c.requires.read c.requires.taken c.in-Ok.made.chips
     (built-from (λ q. map (fitted (old_board c.args.parts.now.net q)) (same_chips c.args.parts.now.net q)) c.items.ensures c.in-Ok.ensures.chips)
 
 pub new_files-requires-clause-wiring : goal.new_files-requires-clause-wiring
-new_files-requires-clause-wiring c = writable-wiring c.args.parts.now c.requires.read c.requires.form c.in-Ok.made.net
+new_files-requires-clause-wiring c = writable-wiring c.args.parts.now c.requires.read c.requires.taken c.in-Ok.made.net
     (built-from (λ q. new_net c.args.parts.now.net (map (fitted (old_board c.args.parts.now.net q)) (same_chips c.args.parts.now.net q))) c.items.ensures c.in-Ok.ensures.net)
 
 pub returns : goal.returns

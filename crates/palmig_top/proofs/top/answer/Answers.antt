@@ -4,12 +4,12 @@ use Rattle.palmig_top.proofs.top.answer.Goals as goal
 
 pub returns-clause-right : goal.returns-clause-right
 returns-clause-right g c =
-    answers-reported (map (λ w. w.now) c.args.words.now) (g.F.Files.held c.args.files.now) (g.F.Files.held c.migrate.new.files) (g.F.Files.counts c.args.files.now) (g.F.Files.counts c.migrate.new.files)
-    c.in-Err-migrate.e c.reported-in-Err-migrate.result.exit c.reported-in-Err-migrate.result.text.items c.reported-in-Err-migrate.ensures
-    (answers-command (map (λ w. w.now) c.args.words.now) c.in-Ok.command (g.F.Files.held c.args.files.now) (g.F.Files.held c.migrate.new.files) (g.F.Files.counts c.args.files.now) (g.F.Files.counts c.migrate.new.files)
-    c.in-Err-migrate.e c.in-Ok.ensures c.in-Err-migrate.ensures.done)
+    answers-reported (map (λ w. w.now) c.args.words.now) (g.F.Files.held c.args.files.now) (g.F.Files.held c.perform.new.files) (g.F.Files.counts c.args.files.now) (g.F.Files.counts c.perform.new.files)
+    c.in-Err-perform.e c.reported-in-Err-perform.result.exit c.reported-in-Err-perform.result.text.items c.reported-in-Err-perform.ensures
+    (answers-command (map (λ w. w.now) c.args.words.now) c.in-Ok.command (g.F.Files.held c.args.files.now) (g.F.Files.held c.perform.new.files) (g.F.Files.counts c.args.files.now) (g.F.Files.counts c.perform.new.files)
+    c.in-Err-perform.e c.in-Ok.ensures c.in-Err-perform.ensures.done)
 
 pub returns-clause-text : goal.returns-clause-text
 returns-clause-text g c =
-    has-reported (map (λ w. w.now) c.args.words.now) (g.F.Files.held c.args.files.now) c.in-Err-migrate.e c.reported-in-Err-migrate.result.exit c.reported-in-Err-migrate.result.text.items
-    c.in-Err-migrate.ensures.failure c.reported-in-Err-migrate.ensures
+    has-reported (map (λ w. w.now) c.args.words.now) (g.F.Files.held c.args.files.now) c.in-Err-perform.e c.reported-in-Err-perform.result.exit c.reported-in-Err-perform.result.text.items
+    c.in-Err-perform.ensures.failure c.reported-in-Err-perform.ensures

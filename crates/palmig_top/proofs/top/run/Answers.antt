@@ -1,8 +1,8 @@
-use Rattle.std.proofs.Common.{ℕ, List, ◌≡◌, ◌++◌, take, Option, subst, ap, Err, map}
+use Rattle.std.proofs.Common.{ℕ, List, ◌≡◌, ◌++◌, take, subst, ap, Err, map}
 use Rattle.mig_io.specs.declared.sink.PutError.{PutError}
 use Rattle.std.specs.Option.{option_map}
 use Rattle.palmig_top.specs.Clauses.{Call}
-use Rattle.palmig_top.proofs.Finishing.{RunClauses, run-reported, run-unreported, run-wanting}
+use Rattle.palmig_top.proofs.Finishing.{run-reported, run-unreported, run-wanting}
 use Rattle.palmig_top.proofs.top.run.Goals as goal
 
 pub returns-in-Ok : goal.returns-in-Ok

@@ -1,15 +1,23 @@
 ghost use Rattle.std.specs.Prelude.{◌≡◌};
-ghost use Rattle.palmig_top.specs.Exits.{status_of};
+ghost use Rattle.answers.specs.Exits.{status_of};
 
-use mig_base::FileName;
+use mig_base::{ChipError, FileName, JedError, NetError};
 
-/// Why a command was refused.
+/// Why a command was refused. A file is named by its whole name.
 #[derive(Drop)]
 pub enum Refusal {
     /// The new board would stand under the old one's names.
     Clash,
-    /// The file is of a form that is not taken so far.
+    /// The board of this file is of a form that is not migrated so far.
     Later(FileName),
+    /// The file has more bytes than a file may have.
+    TooLong(FileName),
+    /// The file is no fuse text.
+    Jed(FileName, JedError),
+    /// The fuses of the file make no chip of its kind.
+    Chip(FileName, ChipError),
+    /// The file is no board text.
+    Net(FileName, NetError),
 }
 
 /// The answer of a command.

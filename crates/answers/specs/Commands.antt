@@ -1,0 +1,80 @@
+-- The commands, and what the words of a call alone say.
+use Rattle.std.specs.Prelude.{ℕ, ◌≡◌, ◌&&◌, List, [], ◌∷◌, Option, Some, None, if◌then◌else◌, Result, Ok, Err, codes}
+use Rattle.std.specs.Str.{bytes_eq}
+use Rattle.std.specs.Option.{option_map}
+use Rattle.mig_base.specs.declared.kinds.Kind.{Kind}
+use Rattle.mig_base.specs.DeviceTables.{kind_named}
+use Rattle.mig_base.specs.FuseText.{cut_at}
+use Rattle.mig_base.specs.Names.{is_name, is_stem}
+use Rattle.answers.specs.declared.exit.Exit.{Exit}
+use Rattle.answers.specs.declared.exit.Exit.TheVariants.{Usage, Refused, Memory}
+use Rattle.answers.specs.declared.exit.Refusal.TheVariants.{Clash}
+use Rattle.answers.specs.declared.words.Command.{Command}
+use Rattle.answers.specs.declared.words.Command.TheVariants as command
+use Rattle.answers.specs.declared.words.Migration.{Migration}
+use Rattle.answers.specs.declared.words.Listing.{Listing}
+
+abbrev pub stem_of : List ℕ → Option (List ℕ)
+stem_of word = if is_stem word then Some word else None
+
+-- the words OLD NEW, which are stems
+abbrev pub migration_of : List ℕ → List ℕ → Option Migration
+migration_of old new = if is_stem old && is_stem new then Some (record { old = old; new = new }) else None
+
+abbrev pub chip_listing : List ℕ → List ℕ → Kind → Option Listing
+chip_listing stem name kind = if is_stem stem && is_name name then Some (record { stem = stem; chip = Some name; kind = kind }) else None
+
+-- the word FILE, cut at its first dot: a stem, or a stem, a dot and a name
+abbrev pub listing_at : List ℕ → Option (List ℕ × List ℕ) → Kind → Option Listing
+listing_at file None kind = if is_stem file then Some (record { stem = file; chip = None; kind = kind }) else None
+listing_at file (Some cut) kind = chip_listing cut.0 cut.1 kind
+
+-- the words FILE KIND, of which the second is the name of a kind
+abbrev pub listing_of : List ℕ → Option Kind → Option Listing
+listing_of file None = None
+listing_of file (Some kind) = listing_at file (cut_at 46 file) kind
+
+-- migrate OLD NEW, or list FILE KIND
+abbrev pub command_by : List ℕ → List ℕ → List ℕ → Option Command
+command_by verb first second =
+    if bytes_eq verb (codes "migrate") then option_map command.Migrate (migration_of first second)
+    else (if bytes_eq verb (codes "list") then option_map command.List (listing_of first (kind_named second)) else None)
+
+-- the words of a command; their number is exact
+abbrev pub command_of : List (List ℕ) → Option Command
+command_of [] = None
+command_of (verb ∷ []) = None
+command_of (verb ∷ first ∷ []) = None
+command_of (verb ∷ first ∷ second ∷ []) = command_by verb first second
+command_of (verb ∷ first ∷ second ∷ more ∷ rest) = None
+
+-- a board is not migrated onto itself
+abbrev pub checked : Command → Result Command Exit
+checked (command.Migrate m) = if bytes_eq m.old m.new then Err (Refused Clash) else Ok (command.Migrate m)
+checked (command.List l) = Ok (command.List l)
+
+abbrev pub checked_command : Option Command → Result Command Exit
+checked_command None = Err Usage
+checked_command (Some c) = checked c
+
+-- the command, or what the words alone refuse
+abbrev pub command_or_refusal : List (List ℕ) → Result Command Exit
+command_or_refusal words = checked_command (command_of words)
+
+-- what a word says, or Usage exactly where it says nothing; want of memory aside
+abbrev pub IsOrUsage : {T : Type 0} → Option T → Result T Exit → Type 0
+IsOrUsage said (Ok x) = said ≡ Some x
+IsOrUsage said (Err Usage) = said ≡ None
+IsOrUsage said (Err Memory) = Unit {0}
+IsOrUsage said (Err _) = ⊥
+
+-- the command, or what the words refuse; want of memory aside
+abbrev pub IsSaid : Result Command Exit → Result Command Exit → Type 0
+IsSaid said (Ok c) = said ≡ Ok c
+IsSaid said (Err Usage) = said ≡ Err Usage
+IsSaid said (Err (Refused Clash)) = said ≡ Err (Refused Clash)
+IsSaid said (Err Memory) = Unit {0}
+IsSaid said (Err _) = ⊥
+
+abbrev pub IsCommandOf : List (List ℕ) → Result Command Exit → Type 0
+IsCommandOf words result = IsSaid (command_or_refusal words) result

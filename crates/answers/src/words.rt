@@ -1,0 +1,149 @@
+ghost use Rattle.std.specs.Prelude.{◌≡◌, None, map};
+ghost use Rattle.std.specs.Option.{option_map};
+ghost use Rattle.mig_base.specs.DeviceTables.{kind_named};
+ghost use Rattle.mig_base.specs.FuseText.{cut_at};
+ghost use Rattle.answers.specs.declared.words.Command.TheVariants as command;
+ghost use Rattle.answers.specs.Commands.{IsCommandOf, IsSaid, IsOrUsage, checked_command, stem_of, migration_of, chip_listing, listing_at, listing_of, command_by};
+
+use crate::{Exit, Refusal};
+use mig_base::{Kind, Name, NameError, Stem, kind_of};
+use std::alloc::Global;
+
+/// `migrate OLD NEW`.
+#[derive(Drop)]
+pub struct Migration {
+    pub old: Stem,
+    pub new: Stem,
+}
+
+/// `list FILE KIND`: FILE is the stem, and a dot and the chip's name where there is one.
+#[derive(Drop)]
+pub struct Listing {
+    pub stem: Stem,
+    pub chip: Option<Name>,
+    pub kind: Kind,
+}
+
+/// A command.
+#[derive(Drop)]
+pub enum Command {
+    Migrate(Migration),
+    List(Listing),
+}
+
+/// The stem of this word.
+fn stem(alloc: Global, word: &str) -> Result<Stem, Exit>
+    ensures { IsOrUsage (stem_of word.now) result }
+{
+    match Stem::new(alloc, word.as_bytes()) {
+        Ok(stem) => Ok(stem),
+        Err(NameError::Bad) => Err(Exit::Usage),
+        Err(NameError::Memory) => Err(Exit::Memory),
+    }
+}
+
+/// The stems of a migration.
+fn read_migration(alloc: Global, old: &str, new: &str) -> Result<Migration, Exit>
+    ensures { IsOrUsage (migration_of old.now new.now) result }
+{
+    let old = stem(alloc, old)?;
+    let new = stem(alloc, new)?;
+    Ok(Migration { old, new })
+}
+
+/// What stands before the first dot of a word, and behind it.
+fn cut_at_dot(word: &str) -> Option<(&str, &str)>
+    ensures { option_map (λ p. (p.0.now, p.1.now)) result ≡ cut_at 46 word.now }
+{
+    word.split_once('.')
+}
+
+/// The file of a stem alone.
+fn whole_file(alloc: Global, word: &str, kind: Kind) -> Result<Listing, Exit>
+    ensures { IsOrUsage (listing_at word.now None kind) result }
+{
+    let stem = stem(alloc, word)?;
+    Ok(Listing {
+        stem,
+        chip: None,
+        kind,
+    })
+}
+
+/// The file of a stem and a chip.
+fn chip_file(alloc: Global, front: &str, name: &str, kind: Kind) -> Result<Listing, Exit>
+    ensures { IsOrUsage (chip_listing front.now name.now kind) result }
+{
+    let Some(chip) = Name::new(name.as_bytes()) else {
+        return Err(Exit::Usage);
+    };
+    let stem = stem(alloc, front)?;
+    Ok(Listing {
+        stem,
+        chip: Some(chip),
+        kind,
+    })
+}
+
+/// The file of a listing. A stem has no dot, and neither has a name.
+fn read_file(alloc: Global, word: &str, kind: Kind) -> Result<Listing, Exit>
+    ensures { IsOrUsage (listing_at word.now (cut_at 46 word.now) kind) result }
+{
+    match cut_at_dot(word) {
+        None => whole_file(alloc, word, kind),
+        Some((front, name)) => chip_file(alloc, front, name, kind),
+    }
+}
+
+/// The file and the kind of a listing.
+fn read_listing(alloc: Global, file: &str, kind: &str) -> Result<Listing, Exit>
+    ensures { IsOrUsage (listing_of file.now (kind_named kind.now)) result }
+{
+    match kind_of(kind.as_bytes()) {
+        Some(kind) => read_file(alloc, file, kind),
+        None => Err(Exit::Usage),
+    }
+}
+
+/// `migrate OLD NEW`, refused where both are the same.
+fn migrate(alloc: Global, old: &str, new: &str) -> Result<Command, Exit>
+    ensures { IsSaid (checked_command (option_map command.Migrate (migration_of old.now new.now))) result }
+{
+    let migration = read_migration(alloc, old, new)?;
+    if migration.old.text() == migration.new.text() {
+        return Err(Exit::Refused(Refusal::Clash));
+    }
+    Ok(Command::Migrate(migration))
+}
+
+/// `list FILE KIND`.
+fn list(alloc: Global, file: &str, kind: &str) -> Result<Command, Exit>
+    ensures { IsSaid (checked_command (option_map command.List (listing_of file.now (kind_named kind.now)))) result }
+{
+    let listing = read_listing(alloc, file, kind)?;
+    Ok(Command::List(listing))
+}
+
+/// The command of a verb and two words, or what they alone refuse.
+fn read_command(alloc: Global, verb: &str, first: &str, second: &str) -> Result<Command, Exit>
+    ensures { IsSaid (checked_command (command_by verb.now first.now second.now)) result }
+{
+    match verb {
+        "migrate" => migrate(alloc, first, second),
+        "list" => list(alloc, first, second),
+        _ => Err(Exit::Usage),
+    }
+}
+
+/// The command of these words, or what they alone refuse.
+///
+/// # Errors
+/// `Usage` where the words are no command, `Clash` where a board would be migrated onto itself; `Memory`.
+pub fn read_words(alloc: Global, words: &[&str]) -> Result<Command, Exit>
+    ensures { IsCommandOf (map (λ w. w.now) words.now) result }
+{
+    match words {
+        [verb, first, second] => read_command(alloc, verb, first, second),
+        _ => Err(Exit::Usage),
+    }
+}
