@@ -1,7 +1,8 @@
 use crate::counter;
-use crate::setting::{files_under, held, plain_files};
+use crate::setting::plain_files;
 use mig_io::{MemFiles, MemSink};
 use palmig_top::{run, status};
+use row_files::{files_under, held};
 use std::alloc::{AllocError, Global};
 use std::test::Fail;
 

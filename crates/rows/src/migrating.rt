@@ -1,7 +1,7 @@
-use crate::setting::{all_held, changed_under};
 use crate::{counter, enabled_by_register, texts, toggles};
 use mig_io::{FirmFiles, FirmSink};
 use palmig_top::{run, status};
+use row_files::{all_held, changed_under};
 use std::alloc::Global;
 use std::test::Fail;
 

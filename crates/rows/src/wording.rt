@@ -1,7 +1,8 @@
-use crate::setting::{firm, held, plain_files};
+use crate::setting::plain_files;
 use crate::texts::USAGE;
 use mig_io::MemSink;
 use palmig_top::{Exit, run, status};
+use row_files::{firm, held};
 use std::test::Fail;
 
 const CLASH: &str = "refused clash\n";
