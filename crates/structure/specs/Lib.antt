@@ -1,0 +1,9 @@
+pub mod NodeSets
+pub mod Pure
+pub mod Sweeps
+pub mod Live
+pub mod Waking
+pub mod Absorbable
+pub mod Aliases
+pub mod Signs
+pub mod Products
