@@ -1,0 +1,5 @@
+pub mod ListSteps
+pub mod UnitLaws
+pub mod PlaceLaws
+pub mod AcceptedLaws
+pub mod BoardLaws
