@@ -1,3 +1,4 @@
 pub mod LevelLaws
 pub mod OrderLaws
 pub mod StepLaws
+pub mod OrderRanks

@@ -4,6 +4,7 @@ ghost use Rattle.settle.specs.Settled.{IsSettled};
 ghost use Rattle.settle.specs.Runs.{IsStep, power_up as stored_at_start, shown_levels};
 ghost use Rattle.ranks.specs.Order.{IsOrder};
 ghost use Rattle.steps.specs.Configs.{IsMadeFor, handed_count as count_of_handed, last_of, is_handed as takes_level};
+ghost use Rattle.steps.specs.Rules.{HasLengths, unknown_levels};
 
 use crate::edges::store_next;
 use crate::settling::settle_into;
@@ -28,8 +29,8 @@ fn is_handed(kind: NetKind) -> bool
     matches!(kind, NetKind::Handed(_) | NetKind::Shared(_))
 }
 
-/// How many levels a board is handed.
-fn handed_count(circuit: &Circuit) -> usize
+/// How many levels a board is handed: one for each Input and Both port.
+pub fn handed_count(circuit: &Circuit) -> usize
     ensures { result ≡ count_of_handed circuit.now }
 {
     let mut count = 0;
@@ -52,26 +53,36 @@ pub(crate) fn filled(alloc: Global, level: Level, count: usize) -> Result<Vec<Le
     Ok(levels)
 }
 
+/// Room for the levels of a board: one for each net, drive and register, all X. Only want of memory refuses it.
+pub fn room_for(alloc: Global, circuit: &Circuit) -> Result<Levels, NoMemory>
+    ensures lengths { IfOk result (HasLengths circuit.now) }
+    ensures levels { IfOk result (λ levels. levels ≡ unknown_levels circuit.now) }
+{
+    let nets = filled(alloc, Level::X, circuit.nets.items().len())?;
+    let drives = filled(alloc, Level::X, circuit.units.items().len())?;
+    let visible = filled(alloc, Level::X, circuit.registers.items().len())?;
+    Ok(Levels {
+        nets: Items::new(nets),
+        drives: Items::new(drives),
+        visible: Items::new(visible),
+    })
+}
+
 /// A board at power-up: all registers store 0, and no step was made. Only want of memory refuses it.
 pub fn power_up(alloc: Global, circuit: &Circuit) -> Result<Config, NoMemory>
     ensures made { IfOk result (λ config. IsMadeFor circuit.now config) }
     ensures stored { IfOk result (λ config. config.stored ≡ stored_at_start circuit.now) }
     ensures last { IfOk result (λ config. last_of config ≡ None) }
+    ensures levels { IfOk result (λ config. config.levels ≡ unknown_levels circuit.now) }
 {
     let stored = filled(alloc, Level::Zero, circuit.registers.items().len())?;
     let last = filled(alloc, Level::X, handed_count(circuit))?;
-    let nets = filled(alloc, Level::X, circuit.nets.items().len())?;
-    let drives = filled(alloc, Level::X, circuit.units.items().len())?;
-    let visible = filled(alloc, Level::X, circuit.registers.items().len())?;
+    let levels = room_for(alloc, circuit)?;
     Ok(Config {
         stored: Items::new(stored),
         last: Items::new(last),
         stepped: false,
-        levels: Levels {
-            nets: Items::new(nets),
-            drives: Items::new(drives),
-            visible: Items::new(visible),
-        },
+        levels,
     })
 }
 

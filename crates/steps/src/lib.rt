@@ -8,8 +8,8 @@ mod runs;
 mod settling;
 mod values;
 
-pub use config::{Config, power_up, shows_into, step};
-pub use runs::{Shown, run};
+pub use config::{Config, handed_count, power_up, room_for, shows_into, step};
+pub use runs::{Shown, run, shown_of};
 pub use settling::settle_into;
 
 #[cfg(test)]

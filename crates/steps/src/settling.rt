@@ -1,4 +1,5 @@
 ghost use Rattle.std.specs.Prelude.{◌≡◌, ◌<◌, length, map};
+ghost use Rattle.mig_base.specs.declared.circuit.Levels.{Levels as LevelsOf};
 ghost use Rattle.settle.specs.Settled.{IsSettled, drive_level as level_driven};
 ghost use Rattle.ranks.specs.Order.{IsNode, IsOrder};
 ghost use Rattle.steps.specs.Rules.{HasLengths, new_level, placed, with_drives};
@@ -40,8 +41,8 @@ fn renew_drives(circuit: &Circuit, out: &mut Levels)
     }
 }
 
-/// The settled levels of a board under these stored levels and inputs, in place of any others. The order has every node
-/// once, behind all that it reads; a node is made anew once.
+/// The settled levels of a board under these stored levels and inputs, in place of any others. There are no others. The
+/// order has every node once, behind all that it reads; a node is made anew once.
 pub fn settle_into(
     circuit: &Circuit,
     order: &[Read],
@@ -53,6 +54,7 @@ pub fn settle_into(
     requires stored { length stored.now ≡ length circuit.now.registers }
     requires out { HasLengths circuit.now out.old }
     ensures settled { IsSettled circuit.now stored.now inputs.now out.new }
+    ensures only { (other : LevelsOf) → IsSettled circuit.now stored.now inputs.now other → out.new ≡ other }
     ensures lengths { HasLengths circuit.now out.new }
 {
     for node in order {

@@ -1,0 +1,21 @@
+use Rattle.std.proofs.Common.{sym, subst, ◌∙◌}
+use Rattle.mig_base.specs.declared.circuit.Circuit.{Circuit}
+use Rattle.settle.specs.SameBehaviour.{IsLawful}
+use Rattle.steps.specs.Configs.{IsMadeFor, last_of}
+use Rattle.board.specs.Joined.{equations_of}
+use Rattle.sim_run.proofs.Known.{known-visible, known-step, last-given, was-stepped}
+use Rattle.sim_run.proofs.stepping.step.Goals as goal
+
+pub returns-clause-made : goal.returns-clause-made
+returns-clause-made c =
+    let old = c.args.config.now in
+    let new = c.step.new.config in
+    let given = c.items.result.now in record {
+      made = subst (λ (board : Circuit). IsMadeFor board new) c.circuit.ensures.circuit c.step.ensures.made;
+      stored = known-step c.circuit.result.now old.stored (last_of old) given new.stored c.requires.config.stored c.step.ensures.step;
+      visible = known-visible c.circuit.result.now new.stored given new.levels c.step.ensures.settled;
+      lawful = λ stepped. subst (IsLawful (equations_of c.args.b.now)) (sym (last-given new given c.step.ensures.last stepped ∙ c.items.ensures)) c.requires.inputs.lawful;
+    }
+
+pub returns-clause-stepped : goal.returns-clause-stepped
+returns-clause-stepped c = was-stepped c.step.new.config c.items.result.now c.step.ensures.last

@@ -1,0 +1,36 @@
+-- What is made for a board: stored levels, inputs, settled levels and configurations.
+use Rattle.std.specs.Prelude.{◌≡◌, ◌≢◌, true, List, length, All}
+use Rattle.mig_base.specs.declared.levels.Level.{Level}
+use Rattle.mig_base.specs.declared.levels.Level.TheVariants.{Z}
+use Rattle.mig_base.specs.declared.circuit.Circuit.{Circuit}
+use Rattle.mig_base.specs.declared.circuit.Levels.{Levels}
+use Rattle.settle.specs.SameBehaviour.{IsLawful}
+use Rattle.steps.specs.declared.config.Config.{Config}
+use Rattle.steps.specs.Configs.{IsMadeFor, handed_count}
+use Rattle.steps.specs.Rules.{HasLengths}
+
+-- no level floats: each is 0, 1 or X
+abbrev pub AreKnown : List Level → Type 0
+AreKnown levels = All (λ level. level ≢ Z) levels
+
+-- a level that does not float for each register
+pub record IsStateFor (c : Circuit) (stored : List Level) : Type 0 where
+  pub lengths : length stored ≡ length c.registers
+  pub known : AreKnown stored
+
+-- a lawful level for each Input and Both port
+pub record IsInputFor (c : Circuit) (inputs : List Level) : Type 0 where
+  pub lengths : length inputs ≡ handed_count c
+  pub lawful : IsLawful c inputs
+
+-- a level for each net, drive and register, where no visible Q floats
+pub record AreLevelsFor (c : Circuit) (levels : Levels) : Type 0 where
+  pub lengths : HasLengths c levels
+  pub known : AreKnown levels.visible
+
+-- its state and levels are made for the board and, once a step was made, its last inputs are lawful and its levels settled
+pub record IsConfigFor (c : Circuit) (config : Config) : Type 0 where
+  pub made : IsMadeFor c config
+  pub stored : AreKnown config.stored
+  pub visible : AreKnown config.levels.visible
+  pub lawful : config.stepped ≡ true → IsLawful c config.last

@@ -1,0 +1,58 @@
+ghost use Rattle.std.specs.Prelude.{ℕ, ◌≡◌, ◌<◌, ◌^◌, List, All, length, map, IfOk, Ok};
+ghost use Rattle.mig_base.specs.declared.levels.Level.{Level as LevelOf};
+ghost use Rattle.mig_base.specs.WrittenBoard.{IsWritable};
+ghost use Rattle.settle.specs.Runs.{IsRun};
+ghost use Rattle.script_text.specs.ScriptText.{ports_of, script_of_text};
+ghost use Rattle.script_text.specs.Statements.{Answers};
+ghost use Rattle.script_text.specs.WrittenScript.{IsWritableScript, written_script};
+ghost use Rattle.board.specs.Joined.{equations_of};
+ghost use Rattle.sim_run.specs.Made.{IsInputFor};
+
+use board::Board;
+use mig_base::NoMemory;
+use script_text::{Script, ScriptError};
+use std::alloc::Global;
+use steps::{Shown, power_up, shown_of, step};
+
+/// The script that a text says for the Input and Both ports of a board, or the first refusal. Each step has the levels in
+/// board order, whatever order the text names the ports in.
+///
+/// # Errors
+/// The refusal of the first line that fails, with its number from 1; `PortLeft` with the net number of the first port that
+/// the `ports` line doesn't name; `NoEnd` where no line fails and there is no `end`; `Memory`.
+pub fn read_script(alloc: Global, bytes: &[u8], b: &Board) -> Result<Script, ScriptError>
+    requires bytes { length bytes.now < 2 ^ 32 }
+    ensures said { Answers (script_of_text (ports_of b.now.net) bytes.now) result }
+    ensures writable { IsWritable b.now.net → IfOk result (IsWritableScript b.now.net) }
+    ensures lawful { IsWritable b.now.net → IfOk result (λ script. All (λ given. IsInputFor (equations_of b.now) given.levels) script.steps) }
+{
+    script_text::read_script(alloc, bytes, b.net())
+}
+
+/// The text of a script for a board: the head, the Input and Both ports in board order, a line for each step, and the end.
+/// The script is one that a text can say for this board, and the text says it again. Only want of memory refuses it.
+pub fn write_script(alloc: Global, b: &Board, script: &Script) -> Result<Vec<u8>, NoMemory>
+    requires script { IsWritableScript b.now.net script.now }
+    ensures written { IfOk result (λ text. text.items ≡ written_script b.now.net script.now) }
+    ensures read_back { IfOk result (λ text. script_of_text (ports_of b.now.net) text.items ≡ Ok script.now) }
+{
+    script_text::write_script(alloc, b.net(), script)
+}
+
+/// What a board shows from power-up after each step of a script. Only want of memory refuses it.
+pub fn run_script(alloc: Global, b: &Board, script: &Script) -> Result<Vec<Shown>, NoMemory>
+    requires script { All (λ given. IsInputFor (equations_of b.now) given.levels) script.now.steps }
+    ensures run { IfOk result (λ showns. IsRun (equations_of b.now) (map (λ given. given.levels) script.now.steps) (map (λ shown. shown.levels) showns.items)) }
+    ensures only { IfOk result (λ showns. (others : List (List LevelOf)) → IsRun (equations_of b.now) (map (λ given. given.levels) script.now.steps) others →
+        map (λ shown. shown.levels) showns.items ≡ others) }
+{
+    let circuit = b.circuit();
+    let order = b.order();
+    let mut config = power_up(alloc, circuit)?;
+    let mut showns = Vec::with_capacity(alloc, script.steps.items().len())?;
+    for inputs in script.steps.items() {
+        step(circuit, order, &mut config, inputs.levels.items());
+        showns.push(shown_of(alloc, circuit, &config)?)?;
+    }
+    Ok(showns)
+}
