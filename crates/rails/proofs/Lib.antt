@@ -1,0 +1,11 @@
+pub mod ComposeLemmas
+pub mod ImageLemmas
+pub mod RailLemmas
+pub mod ChangeLemmas
+pub mod ProductLemmas
+pub mod Tables
+pub mod PointLemmas
+pub mod FoundLemmas
+pub mod ValueLemmas
+pub mod CallLemmas
+pub mod LiteralLemmas
