@@ -3,11 +3,10 @@ use Rattle.std.proofs.Common.{ℕ, ◌≡◌, ◌<◌, ◌≤◌, List, [], ◌�
 use Rattle.answers.specs.declared.exit.Exit.TheVariants.{Usage}
 use Rattle.answers.specs.Commands.{command_or_refusal}
 
-pub few-words : (words : List (Bor (List ℕ))) → length words < 3 → command_or_refusal (map (λ w. w.now) words) ≡ Err Usage
+pub few-words : (words : List (Bor (List ℕ))) → length words < 2 → command_or_refusal (map (λ w. w.now) words) ≡ Err Usage
 few-words [] few = refl
 few-words (a ∷ []) few = refl
-few-words (a ∷ b ∷ []) few = refl
-few-words (a ∷ b ∷ c ∷ more) few = absurd (let never : ⊥ = omega arith in never)
+few-words (a ∷ b ∷ more) few = absurd (let never : ⊥ = omega arith in never)
 
 pub many-words : (words : List (Bor (List ℕ))) → 4 ≤ length words → command_or_refusal (map (λ w. w.now) words) ≡ Err Usage
 many-words [] many = absurd (let never : ⊥ = omega arith in never)

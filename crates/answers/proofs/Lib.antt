@@ -1,3 +1,4 @@
 pub mod Cuts
 pub mod CommandWords
 pub mod Lines
+pub mod Spaced

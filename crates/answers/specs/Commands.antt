@@ -13,6 +13,7 @@ use Rattle.answers.specs.declared.words.Command.{Command}
 use Rattle.answers.specs.declared.words.Command.TheVariants as command
 use Rattle.answers.specs.declared.words.Migration.{Migration}
 use Rattle.answers.specs.declared.words.Listing.{Listing}
+use Rattle.answers.specs.declared.words.Simulation.{Simulation}
 
 abbrev pub stem_of : List ℕ → Option (List ℕ)
 stem_of word = if is_stem word then Some word else None
@@ -34,17 +35,26 @@ abbrev pub listing_of : List ℕ → Option Kind → Option Listing
 listing_of file None = None
 listing_of file (Some kind) = listing_at file (cut_at 46 file) kind
 
--- migrate OLD NEW, or list FILE KIND
+-- the words BOARD SCRIPT, which are stems
+abbrev pub simulation_of : List ℕ → List ℕ → Option Simulation
+simulation_of board script = if is_stem board && is_stem script then Some (record { board = board; script = script }) else None
+
+-- check BOARD
+abbrev pub command_on : List ℕ → List ℕ → Option Command
+command_on verb board = if bytes_eq verb (codes "check") then option_map command.Check (stem_of board) else None
+
+-- migrate OLD NEW, list FILE KIND, or sim BOARD SCRIPT
 abbrev pub command_by : List ℕ → List ℕ → List ℕ → Option Command
 command_by verb first second =
     if bytes_eq verb (codes "migrate") then option_map command.Migrate (migration_of first second)
-    else (if bytes_eq verb (codes "list") then option_map command.List (listing_of first (kind_named second)) else None)
+    else (if bytes_eq verb (codes "list") then option_map command.List (listing_of first (kind_named second))
+    else (if bytes_eq verb (codes "sim") then option_map command.Sim (simulation_of first second) else None))
 
 -- the words of a command; their number is exact
 abbrev pub command_of : List (List ℕ) → Option Command
 command_of [] = None
 command_of (verb ∷ []) = None
-command_of (verb ∷ first ∷ []) = None
+command_of (verb ∷ board ∷ []) = command_on verb board
 command_of (verb ∷ first ∷ second ∷ []) = command_by verb first second
 command_of (verb ∷ first ∷ second ∷ more ∷ rest) = None
 
@@ -52,6 +62,8 @@ command_of (verb ∷ first ∷ second ∷ more ∷ rest) = None
 abbrev pub checked : Command → Result Command Exit
 checked (command.Migrate m) = if bytes_eq m.old m.new then Err (Refused Clash) else Ok (command.Migrate m)
 checked (command.List l) = Ok (command.List l)
+checked (command.Check board) = Ok (command.Check board)
+checked (command.Sim s) = Ok (command.Sim s)
 
 abbrev pub checked_command : Option Command → Result Command Exit
 checked_command None = Err Usage

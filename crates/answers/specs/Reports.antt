@@ -1,5 +1,6 @@
--- The reports of answers other than Done.
-use Rattle.std.specs.Prelude.{ℕ, List, [], ◌∷◌, codes}
+-- The reports of answers.
+use Rattle.std.specs.Prelude.{ℕ, List, [], ◌∷◌, ◌++◌, map, filter, slice_index_or, codes}
+use Rattle.std.specs.List.{flat_map}
 use Rattle.std.specs.Fmt.{decimal}
 use Rattle.mig_base.specs.declared.jedec.JedError.{JedError}
 use Rattle.mig_base.specs.declared.jedec.JedError.TheVariants as jed_error
@@ -7,12 +8,24 @@ use Rattle.mig_base.specs.declared.cells.ChipError.{ChipError}
 use Rattle.mig_base.specs.declared.cells.ChipError.TheVariants as chip_error
 use Rattle.mig_base.specs.declared.nets.NetError.{NetError}
 use Rattle.mig_base.specs.declared.nets.NetError.TheVariants as net_error
+use Rattle.mig_base.specs.declared.nets.NetLine.{NetLine}
+use Rattle.mig_base.specs.declared.nets.Node.{Node}
+use Rattle.mig_base.specs.declared.nets.Node.TheVariants.{Gnd, Vcc, Named, Private, Reg}
+use Rattle.mig_base.specs.declared.nets.PinName.{PinName}
+use Rattle.mig_base.specs.declared.levels.Level.{Level}
+use Rattle.mig_base.specs.BoardText.{net_names}
+use Rattle.mig_base.specs.Boards.{is_port}
 use Rattle.mig_base.specs.WrittenBoard.{written_line}
 use Rattle.mig_base.specs.WrittenFuses.{four_hex}
+use Rattle.board.specs.declared.BoardError.{BoardError}
+use Rattle.board.specs.declared.BoardError.TheVariants as board_error
+use Rattle.script_text.specs.declared.scripts.ScriptError.{ScriptError}
+use Rattle.script_text.specs.declared.scripts.ScriptError.TheVariants as script_error
+use Rattle.script_text.specs.WrittenScript.{level_code}
 use Rattle.answers.specs.declared.exit.Exit.{Exit}
 use Rattle.answers.specs.declared.exit.Exit.TheVariants.{Done, Usage, Refused, Missing, ReadFault, SaveFault, OutFault, Memory}
 use Rattle.answers.specs.declared.exit.Refusal.{Refusal}
-use Rattle.answers.specs.declared.exit.Refusal.TheVariants.{Clash, Later, TooLong, Jed, Chip, Net}
+use Rattle.answers.specs.declared.exit.Refusal.TheVariants.{Clash, Later, TooLong, Jed, Chip, Net, Board, Script}
 
 -- the usage line
 abbrev pub usage : List ℕ
@@ -65,22 +78,79 @@ net_reason (net_error.PullNet n) = (codes "PullNet", decimal n ∷ [])
 net_reason net_error.NoEnd = (codes "NoEnd", [])
 net_reason net_error.Memory = (codes "Memory", [])
 
--- refused, what was read, the file, why it was refused
-abbrev pub refusal_words : Refusal → List (List ℕ)
-refusal_words Clash = codes "refused" ∷ codes "clash" ∷ []
-refusal_words (Later f) = codes "refused" ∷ codes "later" ∷ f ∷ []
-refusal_words (TooLong f) = codes "refused" ∷ codes "toolong" ∷ f ∷ []
-refusal_words (Jed f e) = codes "refused" ∷ codes "jed" ∷ f ∷ reason_words (jed_reason e)
-refusal_words (Chip f e) = codes "refused" ∷ codes "chip" ∷ f ∷ reason_words (chip_reason e)
-refusal_words (Net f e) = codes "refused" ∷ codes "net" ∷ f ∷ reason_words (net_reason e)
+-- a pin of a chip
+abbrev pub pin_text : PinName → List ℕ
+pin_text p = p.chip ++ 46 ∷ decimal p.pin
 
--- the report of an answer other than Done
-abbrev pub answer_report : Exit → List ℕ
-answer_report Done = []
-answer_report Usage = usage
-answer_report (Refused r) = written_line (refusal_words r)
-answer_report (Missing f) = written_line (codes "missing" ∷ f ∷ [])
-answer_report (ReadFault f) = written_line (codes "readfault" ∷ f ∷ [])
-answer_report (SaveFault f) = written_line (codes "savefault" ∷ f ∷ [])
-answer_report OutFault = []
-answer_report Memory = []
+-- a node by its name: a private net by its pin, a register by its unit's pin
+abbrev pub node_text : Node → List ℕ
+node_text Gnd = codes "GND"
+node_text Vcc = codes "VCC"
+node_text (Named name) = name
+node_text (Private pin) = pin_text pin
+node_text (Reg pin) = pin_text pin ++ codes ":Q"
+
+abbrev pub board_reason : BoardError → Reason
+board_reason (board_error.InDriven net) = (codes "InDriven", node_text net ∷ [])
+board_reason (board_error.DerivedClock chip) = (codes "DerivedClock", chip ∷ [])
+board_reason (board_error.Loop cycle) = (codes "Loop", map node_text cycle)
+board_reason board_error.Memory = (codes "Memory", [])
+
+-- the name of the net of this number among GND, VCC and the named nets
+abbrev pub name_of_net : List NetLine → ℕ → List ℕ
+name_of_net nets n = slice_index_or (net_names nets) n []
+
+-- why a script was refused for a board with these named nets
+abbrev pub script_reason : List NetLine → ScriptError → Reason
+script_reason nets (script_error.Line n) = (codes "Line", decimal n ∷ [])
+script_reason nets (script_error.PortUnknown n) = (codes "PortUnknown", decimal n ∷ [])
+script_reason nets (script_error.PortTwice n) = (codes "PortTwice", decimal n ∷ [])
+script_reason nets (script_error.PortLeft net) = (codes "PortLeft", name_of_net nets net ∷ [])
+script_reason nets (script_error.LevelBad n) = (codes "LevelBad", decimal n ∷ [])
+script_reason nets (script_error.StepsOver n) = (codes "StepsOver", decimal n ∷ [])
+script_reason nets script_error.NoEnd = (codes "NoEnd", [])
+script_reason nets script_error.Memory = (codes "Memory", [])
+
+-- refused, what was read, the file, why it was refused; nets are printed by these names
+abbrev pub refusal_words : List NetLine → Refusal → List (List ℕ)
+refusal_words nets Clash = codes "refused" ∷ codes "clash" ∷ []
+refusal_words nets (Later f) = codes "refused" ∷ codes "later" ∷ f ∷ []
+refusal_words nets (TooLong f) = codes "refused" ∷ codes "toolong" ∷ f ∷ []
+refusal_words nets (Jed f e) = codes "refused" ∷ codes "jed" ∷ f ∷ reason_words (jed_reason e)
+refusal_words nets (Chip f e) = codes "refused" ∷ codes "chip" ∷ f ∷ reason_words (chip_reason e)
+refusal_words nets (Net f e) = codes "refused" ∷ codes "net" ∷ f ∷ reason_words (net_reason e)
+refusal_words nets (Board f e) = codes "refused" ∷ codes "board" ∷ f ∷ reason_words (board_reason e)
+refusal_words nets (Script f e) = codes "refused" ∷ codes "script" ∷ f ∷ reason_words (script_reason nets e)
+
+-- the report of an answer other than Done, where the board that was read has these named nets
+abbrev pub answer_report : List NetLine → Exit → List ℕ
+answer_report nets Done = []
+answer_report nets Usage = usage
+answer_report nets (Refused r) = written_line (refusal_words nets r)
+answer_report nets (Missing f) = written_line (codes "missing" ∷ f ∷ [])
+answer_report nets (ReadFault f) = written_line (codes "readfault" ∷ f ∷ [])
+answer_report nets (SaveFault f) = written_line (codes "savefault" ∷ f ∷ [])
+answer_report nets OutFault = []
+answer_report nets Memory = []
+
+-- the numbers of chips, named nets, units and registers of an accepted board, and its rank
+abbrev pub accepted_line : ℕ → ℕ → ℕ → ℕ → ℕ → List ℕ
+accepted_line chips nets units registers rank = written_line
+    (codes "accepted" ∷ codes "chips" ∷ decimal chips ∷ codes "nets" ∷ decimal nets ∷ codes "units" ∷ decimal units
+    ∷ codes "registers" ∷ decimal registers ∷ codes "rank" ∷ decimal rank ∷ [])
+
+-- the word `ports` and the names of all ports
+abbrev pub ports_line : List NetLine → List ℕ
+ports_line nets = written_line (codes "ports" ∷ map (λ l. l.name) (filter is_port nets))
+
+-- the word `show` and a word of the levels; the first alone where there are none
+abbrev pub show_words : List Level → List (List ℕ)
+show_words [] = codes "show" ∷ []
+show_words (l ∷ ls) = codes "show" ∷ map level_code (l ∷ ls) ∷ []
+
+abbrev pub show_line : List Level → List ℕ
+show_line levels = written_line (show_words levels)
+
+-- the report of a run: the ports, and a line for each step
+abbrev pub run_report : List NetLine → List (List Level) → List ℕ
+run_report nets showns = ports_line nets ++ flat_map show_line showns

@@ -1,7 +1,9 @@
 ghost use Rattle.std.specs.Prelude.{◌≡◌};
 ghost use Rattle.answers.specs.Exits.{status_of};
 
+use board::BoardError;
 use mig_base::{ChipError, FileName, JedError, NetError};
+use script_text::ScriptError;
 
 /// Why a command was refused. A file is named by its whole name.
 #[derive(Drop)]
@@ -18,6 +20,10 @@ pub enum Refusal {
     Chip(FileName, ChipError),
     /// The file is no board text.
     Net(FileName, NetError),
+    /// The board of this file isn't accepted.
+    Board(FileName, BoardError),
+    /// The file is no script text for its board.
+    Script(FileName, ScriptError),
 }
 
 /// The answer of a command.

@@ -2,12 +2,15 @@
 #![tactic(auto)]
 
 mod exit;
+mod reasons;
+mod shows;
 mod texts;
 mod words;
 
 pub use exit::{Exit, Refusal, status};
+pub use shows::{Counted, accepted, write_ports, write_show};
 pub use texts::report;
-pub use words::{Command, Listing, Migration, read_words};
+pub use words::{Command, Listing, Migration, Simulation, read_words};
 
 #[cfg(test)]
 mod tests;

@@ -3,29 +3,31 @@ ghost use Rattle.mig_base.specs.WrittenBoard.{written_line};
 ghost use Rattle.mig_base.specs.WrittenFuses.{four_hex};
 ghost use Rattle.answers.specs.Reports.{answer_report, refusal_words, reason_words, jed_reason, chip_reason, net_reason};
 
+use crate::reasons::{write_board_error, write_script_error};
 use crate::{Exit, Refusal};
-use mig_base::{ChipError, JedError, NetError};
+use mig_base::{ChipError, JedError, NetError, NetLine};
 use std::alloc::{AllocError, Global};
 
 /// What a call that can't be read is told.
 const USAGE: &str =
     "usage: palmig migrate OLD NEW [PLAN] | compare A B | sim BOARD SCRIPT | list FILE KIND | check BOARD | make N NEW\n";
 
-/// The report of an answer other than Done. Nothing is told of OutFault and Memory.
-pub fn report(alloc: Global, exit: &Exit) -> Result<Vec<u8>, AllocError>
-    ensures { IfOk result (λ v. v.items ≡ answer_report exit.now) }
+/// The report of an answer other than Done, where the board that was read has these named nets. Nothing is told of OutFault
+/// and Memory.
+pub fn report(alloc: Global, exit: &Exit, nets: &[NetLine]) -> Result<Vec<u8>, AllocError>
+    ensures { IfOk result (λ v. v.items ≡ answer_report nets.now exit.now) }
 {
     let mut text = String::new(alloc);
-    write_answer(&mut text, exit)?;
+    write_answer(&mut text, exit, nets)?;
     Ok(text.into_bytes())
 }
 
-fn write_answer(text: &mut String, exit: &Exit) -> Result<(), AllocError>
-    ensures { OnOk result (string_bytes text.new ≡ string_bytes text.old ++ answer_report exit.now) }
+fn write_answer(text: &mut String, exit: &Exit, nets: &[NetLine]) -> Result<(), AllocError>
+    ensures { OnOk result (string_bytes text.new ≡ string_bytes text.old ++ answer_report nets.now exit.now) }
 {
     match exit {
         Exit::Usage => text.push_str(USAGE),
-        Exit::Refused(refusal) => write_refusal(text, refusal),
+        Exit::Refused(refusal) => write_refusal(text, refusal, nets),
         Exit::Missing(file) => writeln!(text, "missing {}", file.text()),
         Exit::ReadFault(file) => writeln!(text, "readfault {}", file.text()),
         Exit::SaveFault(file) => writeln!(text, "savefault {}", file.text()),
@@ -34,8 +36,8 @@ fn write_answer(text: &mut String, exit: &Exit) -> Result<(), AllocError>
 }
 
 /// The line of a refusal.
-fn write_refusal(text: &mut String, refusal: &Refusal) -> Result<(), AllocError>
-    ensures { OnOk result (string_bytes text.new ≡ string_bytes text.old ++ written_line (refusal_words refusal.now)) }
+fn write_refusal(text: &mut String, refusal: &Refusal, nets: &[NetLine]) -> Result<(), AllocError>
+    ensures { OnOk result (string_bytes text.new ≡ string_bytes text.old ++ written_line (refusal_words nets.now refusal.now)) }
 {
     match refusal {
         Refusal::Clash => text.push_str("refused clash\n"),
@@ -52,6 +54,14 @@ fn write_refusal(text: &mut String, refusal: &Refusal) -> Result<(), AllocError>
         Refusal::Net(file, error) => {
             write!(text, "refused net {} ", file.text())?;
             write_net_error(text, *error)
+        }
+        Refusal::Board(file, error) => {
+            write!(text, "refused board {} ", file.text())?;
+            write_board_error(text, error)
+        }
+        Refusal::Script(file, error) => {
+            write!(text, "refused script {} ", file.text())?;
+            write_script_error(text, *error, nets)
         }
     }
 }

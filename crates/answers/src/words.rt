@@ -3,7 +3,7 @@ ghost use Rattle.std.specs.Option.{option_map};
 ghost use Rattle.mig_base.specs.DeviceTables.{kind_named};
 ghost use Rattle.mig_base.specs.FuseText.{cut_at};
 ghost use Rattle.answers.specs.declared.words.Command.TheVariants as command;
-ghost use Rattle.answers.specs.Commands.{IsCommandOf, IsSaid, IsOrUsage, checked_command, stem_of, migration_of, chip_listing, listing_at, listing_of, command_by};
+ghost use Rattle.answers.specs.Commands.{IsCommandOf, IsSaid, IsOrUsage, checked_command, stem_of, migration_of, chip_listing, listing_at, listing_of, simulation_of, command_on, command_by};
 
 use crate::{Exit, Refusal};
 use mig_base::{Kind, Name, NameError, Stem, kind_of};
@@ -24,11 +24,21 @@ pub struct Listing {
     pub kind: Kind,
 }
 
+/// `sim BOARD SCRIPT`.
+#[derive(Drop)]
+pub struct Simulation {
+    pub board: Stem,
+    pub script: Stem,
+}
+
 /// A command.
 #[derive(Drop)]
 pub enum Command {
     Migrate(Migration),
     List(Listing),
+    /// `check BOARD`.
+    Check(Stem),
+    Sim(Simulation),
 }
 
 /// The stem of this word.
@@ -124,6 +134,33 @@ fn list(alloc: Global, file: &str, kind: &str) -> Result<Command, Exit>
     Ok(Command::List(listing))
 }
 
+/// `check BOARD`.
+fn check(alloc: Global, board: &str) -> Result<Command, Exit>
+    ensures { IsSaid (checked_command (option_map command.Check (stem_of board.now))) result }
+{
+    let board = stem(alloc, board)?;
+    Ok(Command::Check(board))
+}
+
+/// `sim BOARD SCRIPT`.
+fn sim(alloc: Global, board: &str, script: &str) -> Result<Command, Exit>
+    ensures { IsSaid (checked_command (option_map command.Sim (simulation_of board.now script.now))) result }
+{
+    let board = stem(alloc, board)?;
+    let script = stem(alloc, script)?;
+    Ok(Command::Sim(Simulation { board, script }))
+}
+
+/// The command of a verb and one word, or what they alone refuse.
+fn read_short_command(alloc: Global, verb: &str, board: &str) -> Result<Command, Exit>
+    ensures { IsSaid (checked_command (command_on verb.now board.now)) result }
+{
+    match verb {
+        "check" => check(alloc, board),
+        _ => Err(Exit::Usage),
+    }
+}
+
 /// The command of a verb and two words, or what they alone refuse.
 fn read_command(alloc: Global, verb: &str, first: &str, second: &str) -> Result<Command, Exit>
     ensures { IsSaid (checked_command (command_by verb.now first.now second.now)) result }
@@ -131,6 +168,7 @@ fn read_command(alloc: Global, verb: &str, first: &str, second: &str) -> Result<
     match verb {
         "migrate" => migrate(alloc, first, second),
         "list" => list(alloc, first, second),
+        "sim" => sim(alloc, first, second),
         _ => Err(Exit::Usage),
     }
 }
@@ -143,6 +181,7 @@ pub fn read_words(alloc: Global, words: &[&str]) -> Result<Command, Exit>
     ensures { IsCommandOf (map (λ w. w.now) words.now) result }
 {
     match words {
+        [verb, board] => read_short_command(alloc, verb, board),
         [verb, first, second] => read_command(alloc, verb, first, second),
         _ => Err(Exit::Usage),
     }

@@ -71,7 +71,7 @@ gives-second view last judge next second both h x (Err Usage) e widen p = p
 gives-second view last judge next second both h x (Err (SaveFault f)) e widen p = p
 gives-second view last judge next second both h x (Err OutFault) e widen p = p
 
-caused-in : {W : Type 0} (a b c : Counts) (r : Result W Exit) → NoneFell a b → IfErr r (λ e. IsCaused b c e) → IfErr r (λ e. IsCaused a c e)
+pub caused-in : {W : Type 0} (a b c : Counts) (r : Result W Exit) → NoneFell a b → IfErr r (λ e. IsCaused b c e) → IfErr r (λ e. IsCaused a c e)
 caused-in a b c (Ok w) p q = tt
 caused-in a b c (Err e) p q = caused-later a b c e p q
 

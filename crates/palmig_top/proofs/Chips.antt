@@ -8,7 +8,7 @@ use Rattle.mig_io.specs.Holding.{Held}
 use Rattle.answers.specs.declared.exit.Exit.{Exit}
 use Rattle.answers.specs.declared.exit.Exit.TheVariants.{Done, Usage, Refused, Missing, ReadFault, SaveFault, OutFault, Memory}
 use Rattle.mig_base.specs.declared.nets.Net.{Net}
-use Rattle.palmig_top.specs.declared.parts.Parts.{Parts}
+use Rattle.board.specs.Joined.{Joined}
 use Rattle.palmig_top.specs.Verdict.{◌>>=◌, chip_held, chips_held, wiring_held, parts_held, LoadsChips, LoadsBoard}
 use Rattle.palmig_top.specs.HeldBoard.{jed_file, net_file}
 use Rattle.palmig_top.specs.Steps.{StepGives, Fails}
@@ -139,27 +139,27 @@ read-more (l ∷ ls) left line [] cells p q = absurd p
 read-more (l ∷ ls) left line (c ∷ cs) cells p q = (p.0, read-more ls left line cs cells p.1 q)
 
 -- wiring, and then chips
-abbrev with_net : Net → Result (List ChipCells) Exit → Result Parts Exit
+abbrev pub with_net : Net → Result (List ChipCells) Exit → Result Joined Exit
 with_net net r = r >>= λ chips. Ok (record { net = net; chips = chips })
 
 pub parts-failed : {X : Type 0} (view : X → List ChipCells) (held mid after : Option Held) (before between now : Counts) (stem : List ℕ) (net : Net) (e : Exit) →
     StepGives (λ (n : Net). n) (λ h. wiring_held h stem) (λ h f. f ≡ net_file stem) held mid before between (Ok net) →
     StepGives {X = X} view (λ h. chips_held h stem net.chips) (λ h f. LoadsChips h stem net.chips f) mid after between now (Err e) →
-    StepGives (λ (p : Parts). p) (λ h. parts_held h stem) (λ h f. LoadsBoard h stem f) held after before now (Err e)
+    StepGives (λ (p : Joined). p) (λ h. parts_held h stem) (λ h f. LoadsBoard h stem f) held after before now (Err e)
 parts-failed view held mid after before between now stem net e p q =
-    second-step (λ (n : Net). n) (λ (p : Parts). p) (λ h. wiring_held h stem) (λ h n. with_net n (chips_held h stem n.chips))
+    second-step (λ (n : Net). n) (λ (p : Joined). p) (λ h. wiring_held h stem) (λ h n. with_net n (chips_held h stem n.chips))
     (λ h f. f ≡ net_file stem) (λ h f. LoadsChips h stem net.chips f) (λ h f. LoadsBoard h stem f) held mid after before between now net (Err e)
     (λ h f found loads. inr (net, found, loads)) p
-    (first-failed view (λ (p : Parts). p) (λ h. chips_held h stem net.chips) (λ h chips. Ok (record { net = net; chips = chips }))
+    (first-failed view (λ (p : Joined). p) (λ h. chips_held h stem net.chips) (λ h chips. Ok (record { net = net; chips = chips }))
     (λ h f. LoadsChips h stem net.chips f) (λ h f. LoadsChips h stem net.chips f) mid after between now e (λ h f l. l) q)
 
 pub parts-made : {X : Type 0} (view : X → List ChipCells) (held mid after : Option Held) (before between now : Counts) (stem : List ℕ) (net : Net) (x : X) →
     StepGives (λ (n : Net). n) (λ h. wiring_held h stem) (λ h f. f ≡ net_file stem) held mid before between (Ok net) →
     StepGives {X = X} view (λ h. chips_held h stem net.chips) (λ h f. LoadsChips h stem net.chips f) mid after between now (Ok x) →
-    StepGives (λ (p : Parts). p) (λ h. parts_held h stem) (λ h f. LoadsBoard h stem f) held after before now (Ok (record { net = net; chips = view x }))
+    StepGives (λ (p : Joined). p) (λ h. parts_held h stem) (λ h f. LoadsBoard h stem f) held after before now (Ok (record { net = net; chips = view x }))
 parts-made view held mid after before between now stem net x p q =
-    second-step (λ (n : Net). n) (λ (p : Parts). p) (λ h. wiring_held h stem) (λ h n. with_net n (chips_held h stem n.chips))
+    second-step (λ (n : Net). n) (λ (p : Joined). p) (λ h. wiring_held h stem) (λ h n. with_net n (chips_held h stem n.chips))
     (λ h f. f ≡ net_file stem) (λ h f. LoadsChips h stem net.chips f) (λ h f. LoadsBoard h stem f) held mid after before between now net (Ok (record { net = net; chips = view x }))
     (λ h f found loads. inr (net, found, loads)) p
-    (pure-step view (λ (p : Parts). p) (λ h. chips_held h stem net.chips) (λ chips. Ok (record { net = net; chips = chips }))
+    (pure-step view (λ (p : Joined). p) (λ h. chips_held h stem net.chips) (λ chips. Ok (record { net = net; chips = chips }))
     (λ h f. LoadsChips h stem net.chips f) mid after between now x (Ok (record { net = net; chips = view x })) q refl)

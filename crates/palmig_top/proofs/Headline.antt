@@ -1,5 +1,5 @@
 -- What a migration leaves.
-use Rattle.std.proofs.Common.{ℕ, ◌≡◌, true, List, [], ◌∷◌, ◌++◌, map, Option, Some, None, Result, Ok, refl, sym, ap, ◌∙◌, subst, append_assoc}
+use Rattle.std.proofs.Common.{ℕ, ◌≡◌, true, List, [], ◌∷◌, ◌++◌, map, Option, Some, None, Result, Ok, refl, sym, ap, ◌∙◌, subst, append_assoc, inl, inr}
 use Rattle.std.specs.Prelude.{IfSome}
 use Rattle.std.specs.List.{AllByRecursion}
 use Rattle.std.specs.Str.{bytes_eq}
@@ -8,6 +8,7 @@ use Rattle.mig_base.specs.declared.kinds.Kind.TheVariants.{Gal16V8}
 use Rattle.mig_base.specs.declared.nets.Net.{Net}
 use Rattle.mig_base.specs.declared.cells.ChipCells.{ChipCells}
 use Rattle.mig_base.specs.DeviceTables.{is_v8}
+use Rattle.mig_base.specs.Limits.{most_file_bytes}
 use Rattle.mig_base.specs.WrittenBoard.{written_net, are_distinct, IsWritable}
 use Rattle.mig_base.specs.WrittenPlan.{written_plan}
 use Rattle.mig_base.specs.BoardText.{net_of_text}
@@ -30,16 +31,16 @@ use Rattle.answers.specs.declared.words.Command.{Command}
 use Rattle.answers.specs.declared.words.Command.TheVariants.{Migrate}
 use Rattle.answers.specs.declared.words.Migration.{Migration}
 use Rattle.answers.specs.Commands.{command_or_refusal}
-use Rattle.palmig_top.specs.declared.parts.Parts.{Parts}
+use Rattle.board.specs.Joined.{Joined}
 use Rattle.palmig_top.specs.HeldBoard.{HoldsBoard, HoldsChips, HoldsFile, net_file, plan_file}
-use Rattle.palmig_top.specs.Verdict.{◌>>=◌, File, Outcome, judged, judged_command, judged_migration, outcome_or_later, outcome_of, files_of, fuse_file, is_taken_board, loaded, wiring_of, wiring_held, chips_held, parts_held}
+use Rattle.palmig_top.specs.Verdict.{◌>>=◌, File, Outcome, JudgesWords, JudgesCall, JudgesMigration, outcome_or_later, outcome_of, files_of, fuse_file, is_taken_board, loaded, wiring_of, wiring_held, chips_held, parts_held}
 use Rattle.palmig_top.specs.Answer.{Answers, LeavesFiles, placed_all}
 use Rattle.palmig_top.specs.Clauses.{Call, IsMigrated, Migrated}
-use Rattle.palmig_top.proofs.HeldParts.{went, only, told, holds-file, chips-hold, chips-read, taken-board, read-writable}
+use Rattle.palmig_top.proofs.HeldParts.{board-parts, went, only, told, holds-file, chips-hold, chips-read, taken-board, read-writable}
 use Rattle.palmig_top.proofs.NewFilesHeld.{built-chips, apart-behind, last-placed}
 
 -- a board that was judged
-pub record Judged (h : Held) (stem : List ℕ) (parts : Parts) : Type 0 where
+pub record Judged (h : Held) (stem : List ℕ) (parts : Joined) : Type 0 where
   pub bytes : List ℕ
   pub file : HoldsFile h (net_file stem) bytes
   pub text : net_of_text bytes ≡ Ok parts.net
@@ -49,11 +50,11 @@ pub record Judged (h : Held) (stem : List ℕ) (parts : Parts) : Type 0 where
 ok-same : {A : Type 0} (x y : A) → (let q : Result A Exit = Ok x in q) ≡ Ok y → x ≡ y
 ok-same x y p = cc
 
-judged-parts : (h : Held) (stem : List ℕ) (parts : Parts) → parts_held h stem ≡ Ok parts → Judged h stem parts
+judged-parts : (h : Held) (stem : List ℕ) (parts : Joined) → parts_held h stem ≡ Ok parts → Judged h stem parts
 judged-parts h stem parts e =
     let a = went (wiring_held h stem) (λ net. chips_held h stem net.chips >>= λ chips. Ok (record { net = net; chips = chips })) parts e in
     let b = went (chips_held h stem a.at.chips) (λ chips. Ok (record { net = a.at; chips = chips })) parts a.then in
-    let f = went (loaded h (net_file stem)) (λ bytes. wiring_of (net_file stem) bytes) a.at a.begun in
+    let f = went (loaded h most_file_bytes (net_file stem)) (λ bytes. wiring_of (net_file stem) bytes) a.at a.begun in
     subst (Judged h stem) (ok-same (record { net = a.at; chips = b.at }) parts b.then) (record {
       bytes = f.at;
       file = holds-file h (net_file stem) f.at f.begun;
@@ -74,10 +75,10 @@ names-of [] = refl
 names-of (f ∷ fs) = ap (λ (q : List (List ℕ)). f.name ∷ q) (names-of fs)
 
 -- the fuse files and the plan
-front : List ℕ → Parts → List File
+front : List ℕ → Joined → List File
 front stem parts = map (fuse_file stem) (built_chips parts.net parts.chips) ++ (plan_file stem, written_plan (one_for_one parts.net parts.chips)) ∷ []
 
-wiring-placed : (h : Held) (stem : List ℕ) (parts : Parts) → placed_all (files_of stem parts) h (net_file stem) ≡ Some (written_net (built_net parts.net parts.chips))
+wiring-placed : (h : Held) (stem : List ℕ) (parts : Joined) → placed_all (files_of stem parts) h (net_file stem) ≡ Some (written_net (built_net parts.net parts.chips))
 unfolding front
 wiring-placed h stem parts = ap (λ (fs : List File). placed_all fs h (net_file stem))
     (sym (append_assoc (map (fuse_file stem) (built_chips parts.net parts.chips)) ((plan_file stem, written_plan (one_for_one parts.net parts.chips)) ∷ [])
@@ -88,7 +89,7 @@ chips-distinct : (net : Net) (chips : List ChipCells) → IsWritable (built_net 
 chips-distinct net chips w = ap (are_distinct bytes_eq) (sym (names-of (built_chips net chips))) ∙ w.distinct_chips
 
 -- the new files form the new board
-new-board : (h : Held) (stem : List ℕ) (parts : Parts) → IsBuiltWell parts.net parts.chips → IsRebuilt parts.net parts.chips →
+new-board : (h : Held) (stem : List ℕ) (parts : Joined) → IsBuiltWell parts.net parts.chips → IsRebuilt parts.net parts.chips →
     HoldsBoard (placed_all (files_of stem parts) h) stem (built_net parts.net parts.chips) (built_cells parts.net parts.chips)
 new-board h stem parts well rebuilt = record {
   bytes = written_net (built_net parts.net parts.chips);
@@ -100,7 +101,7 @@ new-board h stem parts well rebuilt = record {
   accepted = rebuilt.new_accepted;
 }
 
-moved : (h : Held) (old new : List ℕ) (parts : Parts) → Judged h old parts → TakenBoard parts.net parts.chips → Migrated h (placed_all (files_of new parts) h) old new
+moved : (h : Held) (old new : List ℕ) (parts : Joined) → Judged h old parts → TakenBoard parts.net parts.chips → Migrated h (placed_all (files_of new parts) h) old new
 moved h old new parts j taken =
     let rebuilt = taken-rebuilt parts.net parts.chips taken in
     let well = built-well parts.net parts.chips (read-writable parts.net (j.bytes, j.text)) taken in
@@ -122,17 +123,20 @@ moved h old new parts j taken =
       cells = refl;
     }
 
--- a migration that is done has moved the board
-pub migrated : (m : Migration) (h : Held) (outcome : Outcome) → judged_migration m h ≡ Ok outcome → Migrated h (placed_all outcome.saves h) m.old m.new
-migrated m h outcome e =
-    let a = went (parts_held h m.old) (outcome_or_later m) outcome e in
-    let o = only (is_taken_board a.at) (outcome_of m.new a.at) outcome (Refused (Later (net_file m.old))) a.then in
-    let j = judged-parts h m.old a.at a.begun in
+moved-from : (m : Migration) (h : Held) (outcome : Outcome) (b : Joined) → parts_held h m.old ≡ Ok b → outcome_or_later m b ≡ Ok outcome → Migrated h (placed_all outcome.saves h) m.old m.new
+moved-from m h outcome b e then =
+    let o = only (is_taken_board b) (outcome_of m.new b) outcome (Refused (Later (net_file m.old))) then in
+    let j = judged-parts h m.old b e in
     subst (λ (q : Outcome). Migrated h (placed_all q.saves h) m.old m.new) o.same
-    (moved h m.old m.new a.at j (taken-board a.at (record { wiring = (j.bytes, j.text); chips = j.read }) o.passed))
+    (moved h m.old m.new b j (taken-board b (record { wiring = (j.bytes, j.text); chips = j.read }) o.passed))
 
-migration-judged : (words : List (List ℕ)) (m : Migration) (h : Held) (outcome : Outcome) → command_or_refusal words ≡ Ok (Migrate m) → judged words h ≡ Ok outcome → judged_migration m h ≡ Ok outcome
-migration-judged words m h outcome e j = sym (ap (λ (q : Result Command Exit). q >>= λ d. judged_command d h) e) ∙ j
+-- a migration that is done has moved the board
+pub migrated : (m : Migration) (h : Held) (outcome : Outcome) → JudgesMigration m h (Ok outcome) → Migrated h (placed_all outcome.saves h) m.old m.new
+migrated m h outcome (inl p) = moved-from m h outcome p.0 (board-parts h m.old p.0 p.1) p.2
+migrated m h outcome (inr p) = absurd (let no : ⊥ = cc in no)
+
+migration-judged : (words : List (List ℕ)) (m : Migration) (h : Held) (outcome : Outcome) → command_or_refusal words ≡ Ok (Migrate m) → JudgesWords words h (Ok outcome) → JudgesMigration m h (Ok outcome)
+migration-judged words m h outcome e j = subst (λ (q : Result Command Exit). JudgesCall q h (Ok outcome)) e j
 
 done-migrated : (words : List (List ℕ)) (held after : Option Held) (before now : Counts) → LeavesFiles words held after before now Done →
     IfSome held (λ h. IfSome after (λ k. (m : Migration) → command_or_refusal words ≡ Ok (Migrate m) → Migrated h k m.old m.new))

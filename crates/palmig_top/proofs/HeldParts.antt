@@ -1,5 +1,5 @@
 -- What a board that was loaded keeps.
-use Rattle.std.proofs.Common.{ℕ, ◌≡◌, ◌≤◌, Bool, true, false, ◌&&◌, List, [], ◌∷◌, length, Option, Some, None, Result, Ok, Err, refl, ap, subst}
+use Rattle.std.proofs.Common.{ℕ, ◌≡◌, ◌≤◌, Bool, true, false, ◌&&◌, List, [], ◌∷◌, length, Option, Some, None, Result, Ok, Err, refl, sym, ap, ◌∙◌, subst, inl, inr}
 use Rattle.std.specs.Prelude.{nat_le}
 use Rattle.std.proofs.lemmas.Bool.{leb-true}
 use Rattle.mig_base.specs.declared.cells.ChipCells.{ChipCells}
@@ -17,9 +17,9 @@ use Rattle.answers.specs.declared.exit.Exit.{Exit}
 use Rattle.answers.specs.declared.exit.Exit.TheVariants.{Refused}
 use Rattle.answers.specs.declared.exit.Refusal.{Refusal}
 use Rattle.answers.specs.declared.exit.Refusal.TheVariants.{TooLong, Jed, Chip}
-use Rattle.palmig_top.specs.declared.parts.Parts.{Parts}
+use Rattle.board.specs.Joined.{Joined}
 use Rattle.palmig_top.specs.HeldBoard.{HoldsFile, HoldsChip, HoldsChips, jed_file}
-use Rattle.palmig_top.specs.Verdict.{◌>>=◌, only_if, or_refused, within_at, loaded, chip_of, chip_held, chips_held, is_taken_board}
+use Rattle.palmig_top.specs.Verdict.{◌>>=◌, only_if, or_refused, within_at, loaded, chip_of, chip_held, chips_held, parts_held, is_taken_board, JudgesBoard}
 use Rattle.palmig_top.specs.Reading.{IsReadWiring, IsReadBoard}
 
 -- both steps of a chain that went well
@@ -56,14 +56,14 @@ file-at most name bytes (Some b) e =
     let p = only (nat_le (length b) most) b bytes (Refused (TooLong name)) e in
     (ap (λ (q : List ℕ). Some q) p.same, subst (λ (q : List ℕ). length q ≤ most) p.same (leb-true (length b) most p.passed))
 
-pub holds-file : (h : Held) (name bytes : List ℕ) → loaded h name ≡ Ok bytes → HoldsFile h name bytes
+pub holds-file : (h : Held) (name bytes : List ℕ) → loaded h most_file_bytes name ≡ Ok bytes → HoldsFile h name bytes
 holds-file h name bytes e = let p = file-at most_file_bytes name bytes (h name) e in record { content = p.0; short = p.1 }
 
 -- the chips that are held
 pub chip-holds : (h : Held) (stem : List ℕ) (line : ChipLine) (cells : ChipCells) → chip_held h (jed_file stem line.name) line.kind ≡ Ok cells → HoldsChip h stem line cells
 chip-holds h stem line cells e =
     let name = jed_file stem line.name in
-    let a = went (loaded h name) (λ bytes. chip_of name line.kind bytes) cells e in
+    let a = went (loaded h most_file_bytes name) (λ bytes. chip_of name line.kind bytes) cells e in
     let b = went (or_refused (Jed name) (fuses_of_text a.at)) (λ bits. or_refused (Chip name) (cells_of line.kind bits)) cells a.then in
     record {
       bytes = a.at;
@@ -84,6 +84,11 @@ chips-hold h stem (line ∷ lines) chips e =
     ok-same : (x y : List ChipCells) → (let q : Result (List ChipCells) Exit = Ok x in q) ≡ Ok y → x ≡ y
     ok-same x y p = cc
 
+-- the board that is held is the one that was read
+pub board-parts : (h : Held) (stem : List ℕ) (b : Joined) → JudgesBoard stem h (Ok b) → parts_held h stem ≡ Ok b
+board-parts h stem b (inl p) = p.1 ∙ ap (λ (q : Joined). Ok q) (sym p.2.0)
+board-parts h stem b (inr p) = absurd (let no : ⊥ = cc in no)
+
 -- a board that was read, and is of the form that is taken
 pub read-writable : (net : Net) → IsReadWiring net → IsWritable net
 read-writable net r = given-writable r.0 net r.1
@@ -92,7 +97,7 @@ and-parts : (a b : Bool) → (a && b) ≡ true → (a ≡ true) × (b ≡ true)
 and-parts true b e = (refl, e)
 and-parts false b e = cc
 
-pub taken-board : (parts : Parts) → IsReadBoard parts → is_taken_board parts ≡ true → TakenBoard parts.net parts.chips
+pub taken-board : (parts : Joined) → IsReadBoard parts → is_taken_board parts ≡ true → TakenBoard parts.net parts.chips
 taken-board parts r taken =
     let writable = read-writable parts.net r.wiring in
     let both = and-parts (is_taken_wiring parts.net) (is_taken_form parts.net parts.chips) taken in

@@ -1,9 +1,17 @@
 pub mod Loading
 pub mod Chains
+pub mod Judging
 pub mod Chips
+pub mod BoardSteps
 pub mod SavingLemmas
 pub mod HeldParts
 pub mod NewFilesHeld
 pub mod NewFilesMade
 pub mod Headline
 pub mod Finishing
+pub mod Answering
+pub mod Reporting
+pub mod PlainRefusals
+pub mod Sinks
+pub mod Concluded
+pub mod Running

@@ -6,7 +6,6 @@ use Rattle.std.proofs.Common.{ℕ, ◌≡◌, ◌<◌, ◌≤◌, ◌+◌, Bool,
 use Rattle.std.proofs.lemmas.List.{length-take}
 use Rattle.std.specs.Prelude.{IfSome}
 use Rattle.std.specs.Option.{option_map}
-use Rattle.mig_base.specs.Limits.{most_file_bytes}
 use Rattle.mig_io.specs.Holding.{Held}
 use Rattle.answers.specs.declared.exit.Exit.TheVariants.{Refused}
 use Rattle.answers.specs.declared.exit.Refusal.TheVariants.{TooLong}
@@ -39,12 +38,12 @@ long-at m name v (Some bytes) h long =
     let over : m < length bytes = omega arith in
     ap (λ (t : Bool). only_if t bytes (Refused (TooLong name))) (lt-leb (length bytes) m over)
 
-pub loaded-whole : (held : Option Held) (name v : List ℕ) → IfSome held (λ h. option_map (take (most_file_bytes + 1)) (h name) ≡ Some v) → length v ≤ most_file_bytes →
-    IfSome held (λ h. loaded h name ≡ Ok v)
-loaded-whole None name v h short = tt
-loaded-whole (Some f) name v h short = whole-at most_file_bytes name v (f name) h short
+pub loaded-whole : (held : Option Held) (most : ℕ) (name v : List ℕ) → IfSome held (λ h. option_map (take (most + 1)) (h name) ≡ Some v) → length v ≤ most →
+    IfSome held (λ h. loaded h most name ≡ Ok v)
+loaded-whole None most name v h short = tt
+loaded-whole (Some f) most name v h short = whole-at most name v (f name) h short
 
-pub loaded-long : (held : Option Held) (name v : List ℕ) → IfSome held (λ h. option_map (take (most_file_bytes + 1)) (h name) ≡ Some v) → most_file_bytes < length v →
-    IfSome held (λ h. loaded h name ≡ Err (Refused (TooLong name)))
-loaded-long None name v h long = tt
-loaded-long (Some f) name v h long = long-at most_file_bytes name v (f name) h long
+pub loaded-long : (held : Option Held) (most : ℕ) (name v : List ℕ) → IfSome held (λ h. option_map (take (most + 1)) (h name) ≡ Some v) → most < length v →
+    IfSome held (λ h. loaded h most name ≡ Err (Refused (TooLong name)))
+loaded-long None most name v h long = tt
+loaded-long (Some f) most name v h long = long-at most name v (f name) h long

@@ -25,7 +25,7 @@ use Rattle.answers.specs.declared.exit.Exit.{Exit}
 use Rattle.answers.specs.declared.exit.Exit.TheVariants.{Refused, Memory}
 use Rattle.answers.specs.declared.exit.Refusal.TheVariants.{Later}
 use Rattle.answers.specs.declared.words.Migration.{Migration}
-use Rattle.palmig_top.specs.declared.parts.Parts.{Parts}
+use Rattle.board.specs.Joined.{Joined, equations_of}
 use Rattle.palmig_top.specs.declared.prepare.Prepared.{Prepared}
 use Rattle.palmig_top.specs.HeldBoard.{net_file, plan_file, jed_file}
 use Rattle.palmig_top.specs.Verdict.{File, Outcome, fuse_file, files_of, new_chips, new_wiring, done_line, outcome_of, outcome_or_later, is_taken_board, only_if}
@@ -65,10 +65,10 @@ as-many (l ∷ ls) [] r = absurd r
 as-many (l ∷ ls) (c ∷ cs) r = ap suc (as-many ls cs r.1)
 
 -- as many cells as chip lines were read
-pub read-as-many : (parts : Parts) → IsReadBoard parts → length parts.chips ≡ length parts.net.chips
+pub read-as-many : (parts : Joined) → IsReadBoard parts → length parts.chips ≡ length parts.net.chips
 read-as-many parts r = as-many parts.net.chips parts.chips r.chips
 
-built-of : (parts : Parts) → IsReadBoard parts → is_taken_board parts ≡ true → IsBuiltWell parts.net parts.chips
+built-of : (parts : Joined) → IsReadBoard parts → is_taken_board parts ≡ true → IsBuiltWell parts.net parts.chips
 built-of parts r form = built-well parts.net parts.chips (read-writable parts.net r.wiring) (taken-board parts r form)
 
 writable-from : (fs : List FittedChip) → AllByRecursion (λ f. f.cells.kind ≡ Gal16V8) fs → AllByRecursion (λ f. IsWellFormed f.cells) fs → AllByRecursion IsWritableChip fs
@@ -76,17 +76,17 @@ writable-from [] k w = tt
 writable-from (f ∷ fs) k w = (record { kind = ap is_v8 k.0; cells = w.0 }, writable-from fs k.1 w.1)
 
 -- the new chips' fuses can be written
-pub writable-chips : (parts : Parts) → IsReadBoard parts → is_taken_board parts ≡ true → (made : List FittedChip) → made ≡ new_chips parts → AllByRecursion IsWritableChip made
+pub writable-chips : (parts : Joined) → IsReadBoard parts → is_taken_board parts ≡ true → (made : List FittedChip) → made ≡ new_chips parts → AllByRecursion IsWritableChip made
 writable-chips parts r form made e =
     let well = built-of parts r form in
     subst (λ (fs : List FittedChip). AllByRecursion IsWritableChip fs) (sym e) (writable-from (built_chips parts.net parts.chips) well.kinds well.cells)
 
 -- the new wiring has a text
-pub writable-wiring : (parts : Parts) → IsReadBoard parts → is_taken_board parts ≡ true → (made : Net) → made ≡ new_wiring parts → IsWritable made
+pub writable-wiring : (parts : Joined) → IsReadBoard parts → is_taken_board parts ≡ true → (made : Net) → made ≡ new_wiring parts → IsWritable made
 writable-wiring parts r form made e = subst IsWritable (sym e) (built-of parts r form).wiring
 
 -- what is saved and reported is what should be
-pub outcome-made : (stem : List ℕ) (parts : Parts) (chips : List FittedChip) (plan : Plan) (net : Net) (saves : List File) (report : List ℕ) (lines : List ChipLine) (counted : List FittedChip) →
+pub outcome-made : (stem : List ℕ) (parts : Joined) (chips : List FittedChip) (plan : Plan) (net : Net) (saves : List File) (report : List ℕ) (lines : List ChipLine) (counted : List FittedChip) →
     chips ≡ new_chips parts → plan ≡ one_for_one parts.net parts.chips → net ≡ new_wiring parts →
     saves ≡ map (fuse_file stem) chips ++ (plan_file stem, written_plan plan) ∷ (net_file stem, written_net net) ∷ [] →
     report ≡ done_line (length lines) (length counted) → lines ≡ parts.net.chips → counted ≡ chips →
@@ -100,26 +100,25 @@ outcome-made stem parts chips plan net saves report lines counted c p n s r l d 
     ∙ ap (λ (q : List ChipLine). done_line (length q) (length counted)) l ∙ ap (λ (q : List FittedChip). done_line (length parts.net.chips) (length q)) (d ∙ c))
 
 -- a board of another form is left for later
-pub left-for-later : (m : Migration) (parts : Parts) (name : List ℕ) → is_taken_board parts ≡ false → name ≡ net_file m.old →
+pub left-for-later : (m : Migration) (parts : Joined) (name : List ℕ) → is_taken_board parts ≡ false → name ≡ net_file m.old →
     Says {X = Prepared} outcome_in (outcome_or_later m parts) (Err (Refused (Later name)))
 left-for-later m parts name e n =
     (tt, ap (λ (b : Bool). only_if b (outcome_of m.new parts) (Refused (Later (net_file m.old)))) e ∙ ap (λ (q : List ℕ). Err (Refused (Later q))) (sym n))
 
 -- a board of the form is done, but for want of memory
-pub done-or-memory : (m : Migration) (parts : Parts) (r : Result Prepared Exit) → is_taken_board parts ≡ true →
+pub done-or-memory : (m : Migration) (parts : Joined) (r : Result Prepared Exit) → is_taken_board parts ≡ true →
     MatchResult r (λ p. outcome_in p ≡ outcome_of m.new parts) (λ e. e ≡ Memory) → Says outcome_in (outcome_or_later m parts) r
 done-or-memory m parts (Ok p) form made = ap (λ (b : Bool). only_if b (outcome_of m.new parts) (Refused (Later (net_file m.old)))) form ∙ ap (λ (o : Outcome). Ok o) (sym made)
 done-or-memory m parts (Err e) form made = subst (λ (x : Exit). Says outcome_in (outcome_or_later m parts) (Err x)) (sym made) tt
 
--- the circuit that was made is the board's
-pub made-circuit : (parts : Parts) (made : Circuit) (cells : List ChipCells) → made ≡ circuit_for parts.net cells → cells ≡ parts.chips → made ≡ circuit_for parts.net parts.chips
-made-circuit parts made cells e c = e ∙ ap (circuit_for parts.net) c
+-- what was made of the wiring and the cells as they were lent
+pub built-on : {T : Type 0} {made : T} {net mine : Net} {cells chips : List ChipCells} (build : Net → List ChipCells → T) → net ≡ mine → cells ≡ chips → made ≡ build net cells → made ≡ build mine chips
+built-on {net = net} {chips = chips} build e f m = m ∙ ap (build net) f ∙ ap (λ (n : Net). build n chips) e
 
--- the wiring and the form that were tested are the board's
-pub taken-of : (parts : Parts) (made : Circuit) (form : Bool) → made ≡ circuit_for parts.net parts.chips → form ≡ (are_taken_ports parts.net && is_taken_circuit made) →
-    (is_taken_wiring parts.net && form) ≡ is_taken_board parts
-taken-of parts made form e t = ap (λ (b : Bool). is_taken_wiring parts.net && b) (t ∙ ap (λ (q : Circuit). are_taken_ports parts.net && is_taken_circuit q) e)
+-- the circuit as it was lent is that of the wiring and the cells as they were lent
+pub circuit-on : (board : Joined) (made : Circuit) (net : Net) (cells : List ChipCells) → made ≡ equations_of board → net ≡ board.net → cells ≡ board.chips → made ≡ circuit_for net cells
+circuit-on board made net cells e f g = e ∙ ap (λ (n : Net). circuit_for n board.chips) (sym f) ∙ ap (circuit_for net) (sym g)
 
--- what was made of the cells as they were lent
-pub built-from : {T : Type 0} {made : T} {cells chips : List ChipCells} (build : List ChipCells → T) → cells ≡ chips → made ≡ build cells → made ≡ build chips
-built-from build e m = m ∙ ap build e
+-- as many cells as chip lines, as they were lent
+pub many-on : (board : Joined) (net : Net) (cells : List ChipCells) → IsReadBoard board → net ≡ board.net → cells ≡ board.chips → length cells ≡ length net.chips
+many-on board net cells r f g = ap (λ (q : List ChipCells). length q) g ∙ read-as-many board r ∙ ap (λ (n : Net). length n.chips) (sym f)

@@ -18,6 +18,9 @@ net_file stem = file_name_of stem None (codes "net")
 abbrev pub plan_file : List ℕ → List ℕ
 plan_file stem = file_name_of stem None (codes "plan")
 
+abbrev pub sim_file : List ℕ → List ℕ
+sim_file stem = file_name_of stem None (codes "sim")
+
 abbrev pub jed_file : List ℕ → List ℕ → List ℕ
 jed_file stem chip = file_name_of stem (Some chip) (codes "jed")
 

@@ -6,3 +6,4 @@ pub mod Reading
 pub mod Saving
 pub mod Clauses
 pub mod Preparing
+pub mod Concluding

@@ -1,8 +1,10 @@
 -- What is prepared for saving.
-use Rattle.std.specs.Prelude.{map, IsTrue}
+use Rattle.std.specs.Prelude.{◌≡◌, map, length, IsTrue}
 use Rattle.mig_base.specs.DeviceTables.{is_v8}
 use Rattle.mig_base.specs.WellFormed.{IsWellFormed}
 use Rattle.new_board.specs.declared.types.FittedChip.{FittedChip}
+use Rattle.answers.specs.declared.shows.Counted.{Counted}
+use Rattle.board.specs.Joined.{Joined, equations_of, HasRank}
 use Rattle.palmig_top.specs.declared.prepare.Prepared.{Prepared}
 use Rattle.palmig_top.specs.Verdict.{Outcome}
 use Rattle.palmig_top.specs.Saving.{file_of}
@@ -10,6 +12,14 @@ use Rattle.palmig_top.specs.Saving.{file_of}
 -- as the outcome that it is
 abbrev pub outcome_in : Prepared → Outcome
 outcome_in p = record { saves = map file_of p.saves; report = p.report.items }
+
+-- these are the numbers of a board
+pub record IsCounted (b : Joined) (counted : Counted) : Type 0 where
+  pub chips : counted.chips ≡ length b.net.chips
+  pub nets : counted.nets ≡ length b.net.nets
+  pub units : counted.units ≡ length (equations_of b).units
+  pub registers : counted.registers ≡ length (equations_of b).registers
+  pub rank : HasRank (equations_of b) counted.rank
 
 -- a new chip whose fuses can be written
 pub record IsWritableChip (f : FittedChip) : Type 0 where

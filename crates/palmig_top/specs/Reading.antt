@@ -5,8 +5,10 @@ use Rattle.mig_base.specs.declared.cells.ChipCells.{ChipCells}
 use Rattle.mig_base.specs.declared.nets.Net.{Net}
 use Rattle.mig_base.specs.BoardText.{net_of_text}
 use Rattle.mig_base.specs.Cells.{cells_of}
+use Rattle.script_text.specs.declared.scripts.Script.{Script}
+use Rattle.script_text.specs.ScriptText.{ports_of, script_of_text}
 use Rattle.taken_boards.specs.TakenBoards.{AreMade}
-use Rattle.palmig_top.specs.declared.parts.Parts.{Parts}
+use Rattle.board.specs.Joined.{Joined}
 
 -- some text says the wiring
 abbrev pub IsReadWiring : Net → Type 0
@@ -16,6 +18,10 @@ IsReadWiring net = (bytes : List ℕ) × (net_of_text bytes ≡ Ok net)
 abbrev pub IsReadCells : Kind → ChipCells → Type 0
 IsReadCells kind cells = (bits : List Bool) × (cells_of kind bits ≡ Ok cells)
 
-pub record IsReadBoard (parts : Parts) : Type 0 where
+pub record IsReadBoard (parts : Joined) : Type 0 where
   pub wiring : IsReadWiring parts.net
   pub chips : AreMade parts.net.chips parts.chips
+
+-- some text says the script for this wiring
+abbrev pub IsReadScript : Net → Script → Type 0
+IsReadScript net script = (bytes : List ℕ) × (script_of_text (ports_of net) bytes ≡ Ok script)

@@ -2,19 +2,18 @@ ghost use Rattle.std.specs.Prelude.{◌≡◌, ◌≤◌, ◌++◌, ◌∷◌, [
 ghost use Rattle.std.specs.Option.{option_map};
 ghost use Rattle.mig_base.specs.Names.{file_name_of};
 ghost use Rattle.mig_base.specs.Limits.{most_file_bytes};
-ghost use Rattle.palmig_top.specs.Verdict.{loaded, wiring_of, wiring_held, chip_of, chip_held, chips_held, parts_held, LoadsChips, LoadsBoard};
+ghost use Rattle.palmig_top.specs.Verdict.{loaded, wiring_of, wiring_held, chip_of, chip_held, chips_held, LoadsChips};
 ghost use Rattle.palmig_top.specs.HeldBoard.{net_file, jed_file};
 ghost use Rattle.palmig_top.specs.Steps.{StepGives, Says};
 ghost use Rattle.taken_boards.specs.TakenBoards.{AreMade};
-ghost use Rattle.palmig_top.specs.Reading.{IsReadWiring, IsReadCells, IsReadBoard};
+ghost use Rattle.palmig_top.specs.Reading.{IsReadWiring, IsReadCells};
 
-use crate::Parts;
 use crate::devices::cells;
 use answers::{Exit, Refusal};
 use jed_text::read_jed;
 use mig_base::{
-    ChipCells, ChipError, ChipLine, FileName, Items, JedError, Kind, MOST_FILE_BYTES, Name, Net,
-    NetError, Stem, file_name,
+    ChipCells, ChipError, ChipLine, FileName, JedError, Kind, MOST_FILE_BYTES, Name, Net, NetError,
+    Stem, file_name,
 };
 use mig_io::{Files, LoadError};
 use net_text::read_net;
@@ -42,15 +41,21 @@ pub struct Loaded {
     pub bytes: Vec<u8>,
 }
 
-/// A file of at most the limit's bytes.
-fn load<F: Files>(alloc: Global, files: &mut F, name: FileName) -> Result<Loaded, Exit>
-    ensures step { StepGives (λ r. r.bytes.items) (λ h. loaded h name) (λ h f. f ≡ name) (F.held files.old) (F.held files.new) (F.counts files.old) (F.counts files.new) result }
+/// A file of at most so many bytes.
+pub fn load<F: Files>(
+    alloc: Global,
+    files: &mut F,
+    name: FileName,
+    most: usize,
+) -> Result<Loaded, Exit>
+    requires { most ≤ 16777216 }
+    ensures step { StepGives (λ r. r.bytes.items) (λ h. loaded h most name) (λ h f. f ≡ name) (F.held files.old) (F.held files.new) (F.counts files.old) (F.counts files.new) result }
     ensures named { IfOk result (λ r. r.name ≡ name) }
-    ensures short { IfOk result (λ r. vec_len r.bytes ≤ most_file_bytes) }
+    ensures short { IfOk result (λ r. vec_len r.bytes ≤ most) }
 {
-    match files.load(alloc, &name, MOST_FILE_BYTES) {
+    match files.load(alloc, &name, most) {
         Ok(bytes) => {
-            if bytes.len() <= MOST_FILE_BYTES {
+            if bytes.len() <= most {
                 Ok(Loaded { name, bytes })
             } else {
                 Err(Exit::Refused(Refusal::TooLong(name)))
@@ -98,7 +103,7 @@ pub fn read_wiring<F: Files>(alloc: Global, files: &mut F, stem: &Stem) -> Resul
     ensures read { IfOk result (λ net. IsReadWiring net) }
 {
     let name = named(alloc, stem, None, "net")?;
-    let file = load(alloc, files, name)?;
+    let file = load(alloc, files, name, MOST_FILE_BYTES)?;
     wiring_in(alloc, file)
 }
 
@@ -112,7 +117,7 @@ pub fn read_chip<F: Files>(
     ensures step { StepGives (λ cells. cells) (λ h. chip_held h name kind) (λ h f. f ≡ name) (F.held files.old) (F.held files.new) (F.counts files.old) (F.counts files.new) result }
     ensures read { IfOk result (λ cells. IsReadCells kind cells) }
 {
-    let file = load(alloc, files, name)?;
+    let file = load(alloc, files, name, MOST_FILE_BYTES)?;
     chip_in(alloc, file, kind)
 }
 
@@ -157,17 +162,4 @@ pub fn read_chips<F: Files>(
         add_chip(&mut chips, cells)?;
     }
     Ok(chips)
-}
-
-/// The wiring and the chips of a board.
-pub fn read_parts<F: Files>(alloc: Global, files: &mut F, stem: &Stem) -> Result<Parts, Exit>
-    ensures step { StepGives (λ p. p) (λ h. parts_held h stem.now) (λ h f. LoadsBoard h stem.now f) (F.held files.old) (F.held files.new) (F.counts files.old) (F.counts files.new) result }
-    ensures read { IfOk result (λ p. IsReadBoard p) }
-{
-    let net = read_wiring(alloc, files, stem)?;
-    let chips = read_chips(alloc, files, stem, net.chips.items())?;
-    Ok(Parts {
-        net,
-        chips: Items::new(chips),
-    })
 }

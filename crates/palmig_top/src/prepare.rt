@@ -1,24 +1,24 @@
 ghost use Rattle.std.specs.Prelude.{◌≡◌, ◌++◌, ◌∷◌, [], ℕ, List, true, MatchResult, length, map};
 ghost use Rattle.std.specs.List.{AllByRecursion};
-ghost use Rattle.mig_base.specs.Boards.{circuit as circuit_for};
 ghost use Rattle.mig_base.specs.WrittenBoard.{written_net, IsWritable};
 ghost use Rattle.mig_base.specs.WrittenPlan.{written_plan};
 ghost use Rattle.mig_base.specs.WrittenFuses.{written_fuses};
 ghost use Rattle.mig_base.specs.WrittenCells.{v8_fuses};
 ghost use Rattle.palmig_top.specs.HeldBoard.{net_file, plan_file};
-ghost use Rattle.palmig_top.specs.Verdict.{judged_migration, outcome_or_later, outcome_of, is_taken_board, fuse_file as file_for_chip, done_line, LoadsBoard};
-ghost use Rattle.palmig_top.specs.Steps.{StepGives, Says};
+ghost use Rattle.palmig_top.specs.Verdict.{JudgesMigration, outcome_or_later, outcome_of, is_taken_board, fuse_file as file_for_chip, done_line, LoadsBoard};
+ghost use Rattle.palmig_top.specs.Steps.{StepJudges, Says};
 ghost use Rattle.palmig_top.specs.Reading.{IsReadBoard};
 ghost use Rattle.palmig_top.specs.Saving.{file_of};
 ghost use Rattle.palmig_top.specs.Preparing.{outcome_in, IsWritableChip};
 
-use crate::loads::{named, read_parts};
-use crate::{NewFile, Parts};
+use crate::NewFile;
+use crate::boards::read_board;
+use crate::loads::named;
 use answers::{Exit, Migration, Refusal};
+use board::Board;
 use build::rebuild;
-use equations::circuit_of;
 use jed_write::jed_bytes;
-use mig_base::{Circuit, FileName, Items, NoMemory, Stem};
+use mig_base::{FileName, Items, NoMemory, Stem};
 use mig_io::Files;
 use net_text::write_net;
 use new_board::{FittedChip, Rebuilt};
@@ -113,17 +113,16 @@ fn done_report(alloc: Global, old: usize, new: usize) -> Result<Vec<u8>, AllocEr
 }
 
 /// The new board's files and the report.
-fn rebuilt(alloc: Global, new: &Stem, parts: &Parts, circuit: &Circuit) -> Result<Prepared, Exit>
-    requires read { IsReadBoard parts.now }
-    requires taken { is_taken_board parts.now ≡ true }
-    requires circuit { circuit.now ≡ circuit_for parts.now.net parts.now.chips }
-    ensures { MatchResult result (λ p. outcome_in p ≡ outcome_of new.now parts.now) (λ e. e ≡ Exit.Memory) }
+fn rebuilt(alloc: Global, new: &Stem, board: &Board) -> Result<Prepared, Exit>
+    requires read { IsReadBoard board.now }
+    requires taken { is_taken_board board.now ≡ true }
+    ensures { MatchResult result (λ p. outcome_in p ≡ outcome_of new.now board.now) (λ e. e ≡ Exit.Memory) }
 {
-    let Ok(made) = rebuild(alloc, &parts.net, parts.chips.items(), circuit) else {
+    let Ok(made) = rebuild(alloc, board.net(), board.chips(), board.circuit()) else {
         return Err(Exit::Memory);
     };
     let saves = new_files(alloc, new, &made)?;
-    let old_count = parts.net.chips.items().len();
+    let old_count = board.net().chips.items().len();
     let Ok(report) = done_report(alloc, old_count, made.chips.items().len()) else {
         return Err(Exit::Memory);
     };
@@ -133,27 +132,23 @@ fn rebuilt(alloc: Global, new: &Stem, parts: &Parts, circuit: &Circuit) -> Resul
     })
 }
 
-/// Whether a board is migrated so far. The circuit is that of the board.
-fn is_taken(parts: &Parts, circuit: &Circuit) -> bool
-    requires { circuit.now ≡ circuit_for parts.now.net parts.now.chips }
-    ensures { result ≡ is_taken_board parts.now }
+/// Whether a board is migrated so far.
+fn is_taken(board: &Board) -> bool
+    ensures { result ≡ is_taken_board board.now }
 {
-    is_taken_wiring(&parts.net) && is_taken_form(&parts.net, circuit)
+    is_taken_wiring(board.net()) && is_taken_form(board.net(), board.circuit())
 }
 
 /// The new board's files and the report, or why the board is not migrated.
-fn prepared_of(alloc: Global, migration: &Migration, parts: Parts) -> Result<Prepared, Exit>
-    requires { IsReadBoard parts }
-    ensures { Says outcome_in (outcome_or_later migration.now parts) result }
+fn prepared_of(alloc: Global, migration: &Migration, board: &Board) -> Result<Prepared, Exit>
+    requires { IsReadBoard board.now }
+    ensures { Says outcome_in (outcome_or_later migration.now board.now) result }
 {
-    let Ok(circuit) = circuit_of(alloc, &parts.net, parts.chips.items()) else {
-        return Err(Exit::Memory);
-    };
-    if !is_taken(&parts, &circuit) {
+    if !is_taken(board) {
         let name = named(alloc, &migration.old, None, "net")?;
         return Err(Exit::Refused(Refusal::Later(name)));
     }
-    rebuilt(alloc, &migration.new, &parts, &circuit)
+    rebuilt(alloc, &migration.new, board)
 }
 
 /// Loads the old board and prepares the new one.
@@ -162,8 +157,8 @@ pub fn prepare_migration<F: Files>(
     files: &mut F,
     migration: &Migration,
 ) -> Result<Prepared, Exit>
-    ensures { StepGives outcome_in (λ h. judged_migration migration.now h) (λ h f. LoadsBoard h migration.now.old f) (F.held files.old) (F.held files.new) (F.counts files.old) (F.counts files.new) result }
+    ensures { StepJudges outcome_in (λ h r. JudgesMigration migration.now h r) (λ h f. LoadsBoard h migration.now.old f) (F.held files.old) (F.held files.new) (F.counts files.old) (F.counts files.new) result }
 {
-    let parts = read_parts(alloc, files, &migration.old)?;
-    prepared_of(alloc, migration, parts)
+    let board = read_board(alloc, files, &migration.old)?;
+    prepared_of(alloc, migration, &board)
 }

@@ -9,5 +9,5 @@ pub returns-in-Missing : goal.returns-in-Missing
 returns-in-Missing c =
     let old = string_bytes c.args.text.now in
     let new = string_bytes c.writeln.new.self in
-    subst (λ (e : Exit). OnOk c.writeln.result (new ≡ old ++ answer_report e)) (sym c.in-Missing.is)
+    subst (λ (e : Exit). OnOk c.writeln.result (new ≡ old ++ answer_report c.args.nets.now e)) (sym c.in-Missing.is)
     (file-line old new (codes "missing ") c.text.result.now c.in-Missing.file c.writeln.result c.text.ensures c.writeln.ensures.bytes)

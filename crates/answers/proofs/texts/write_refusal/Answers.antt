@@ -10,7 +10,7 @@ pub returns-in_ok-write-in-Jed : goal.returns-in_ok-write-in-Jed
 returns-in_ok-write-in-Jed c =
     let old = string_bytes c.args.text.now in
     let new = string_bytes c.write_jed_error.new.text in
-    subst (λ (r : Refusal). OnOk c.write_jed_error.result (new ≡ old ++ written_line (refusal_words r))) (sym c.in-Jed.is)
+    subst (λ (r : Refusal). OnOk c.write_jed_error.result (new ≡ old ++ written_line (refusal_words c.args.nets.now r))) (sym c.in-Jed.is)
     (refused-line old (string_bytes c.write.new.self) new (codes "refused jed ") c.in-Jed.file (jed_reason c.in-Jed.error) c.write_jed_error.result
     (c.in_ok-write-in-Jed.ensures.bytes ∙ ap (λ (f : List ℕ). old ++ (codes "refused jed " ++ (f ++ 32 ∷ []))) c.text-in-Jed.ensures) c.write_jed_error.ensures)
 
@@ -18,6 +18,6 @@ pub returns-in_ok-write-in-Net : goal.returns-in_ok-write-in-Net
 returns-in_ok-write-in-Net c =
     let old = string_bytes c.args.text.now in
     let new = string_bytes c.write_net_error.new.text in
-    subst (λ (r : Refusal). OnOk c.write_net_error.result (new ≡ old ++ written_line (refusal_words r))) (sym c.in-Net.is)
+    subst (λ (r : Refusal). OnOk c.write_net_error.result (new ≡ old ++ written_line (refusal_words c.args.nets.now r))) (sym c.in-Net.is)
     (refused-line old (string_bytes c.write-in-Net.new.self) new (codes "refused net ") c.in-Net.file (net_reason c.in-Net.error) c.write_net_error.result
     (c.in_ok-write-in-Net.ensures.bytes ∙ ap (λ (f : List ℕ). old ++ (codes "refused net " ++ (f ++ 32 ∷ []))) c.text-in-Net.ensures) c.write_net_error.ensures)

@@ -1,9 +1,21 @@
-use Rattle.palmig_top.specs.Verdict.{parts_held, outcome_or_later, LoadsBoard}
+use Rattle.std.proofs.Common.{ℕ, List, ◌≡◌}
+use Rattle.std.proofs.lemmas.Result.{err_from_is_err_and}
+use Rattle.board.specs.Joined.{Joined}
+use Rattle.palmig_top.specs.Verdict.{outcome_or_later, JudgesBoard, LoadsBoard}
 use Rattle.palmig_top.specs.Preparing.{outcome_in}
-use Rattle.palmig_top.proofs.Chains.{pure-step}
+use Rattle.palmig_top.proofs.Judging.{then-failed, then-found, says-found}
 use Rattle.palmig_top.proofs.prepare.prepare_migration.Goals as goal
 
+pub returns-in_err-board : goal.returns-in_err-board
+returns-in_err-board g c =
+    let p = err_from_is_err_and c.from_residual.result c.from_residual.ensures.1 in
+    let m = c.args.migration.now in
+    rw (p.1, p.2) (then-failed (λ (b : Joined). b) outcome_in (λ h r. JudgesBoard m.old h r) (λ h b q. outcome_or_later m b ≡ q) (λ h f. LoadsBoard h m.old f) (λ h f. LoadsBoard h m.old f)
+    (g.F.Files.held c.args.files.now) (g.F.Files.held c.read_board.new.files) (g.F.Files.counts c.args.files.now) (g.F.Files.counts c.read_board.new.files) c.in_err-board.field-0.0 (λ h f l. l) c.in_err-board.ensures.step)
+
 pub returns : goal.returns
-returns g c = pure-step (λ p. p) outcome_in (λ h. parts_held h c.args.migration.now.old) (outcome_or_later c.args.migration.now) (λ h f. LoadsBoard h c.args.migration.now.old f)
-    (g.F.Files.held c.args.files.now) (g.F.Files.held c.read_parts.new.files) (g.F.Files.counts c.args.files.now) (g.F.Files.counts c.read_parts.new.files)
-    c.in_ok-parts.parts c.prepared_of.result c.in_ok-parts.ensures.step c.prepared_of.ensures
+returns g c =
+    let m = c.args.migration.now in
+    then-found (λ (b : Joined). b) outcome_in (λ h r. JudgesBoard m.old h r) (λ b q. outcome_or_later m b ≡ q) (λ h f. LoadsBoard h m.old f)
+    (g.F.Files.held c.args.files.now) (g.F.Files.held c.read_board.new.files) (g.F.Files.counts c.args.files.now) (g.F.Files.counts c.read_board.new.files)
+    c.in_ok-board.board c.prepared_of.result c.in_ok-board.ensures.step (says-found outcome_in (outcome_or_later m c.in_ok-board.board) c.prepared_of.result c.prepared_of.ensures)
