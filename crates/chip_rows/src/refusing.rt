@@ -1,8 +1,7 @@
 use crate::setting::lists;
 use mig_io::{FirmSink, MemFiles, MemSink};
 use palmig_top::{run, status};
-use row_files::{files_under, firm, name_of};
-use std::alloc::{AllocError, Global};
+use row_files::{files_under, firm, name_of, only};
 use std::test::Fail;
 
 /// A fuse file, a kind, and why it is refused.
@@ -176,13 +175,6 @@ fn words_of_a_listing_are_answered(rt: HostRuntime) -> Result<(), Fail> {
         assert!(rt; out.sent() == report.as_bytes(), "{report}");
     }
     Ok(())
-}
-
-/// The number of the failing load or put alone.
-fn only(alloc: Global, number: u32) -> Result<Vec<u32>, AllocError> {
-    let mut bad = Vec::new(alloc);
-    bad.push(number)?;
-    Ok(bad)
 }
 
 #[test]

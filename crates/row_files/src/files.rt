@@ -123,3 +123,10 @@ pub fn changed(alloc: Global, text: &str, part: &str, other: &str) -> Result<Str
         None => String::from_str(alloc, text),
     }
 }
+
+/// The number of the one call that fails.
+pub fn only(alloc: Global, number: u32) -> Result<Vec<u32>, AllocError> {
+    let mut numbers = Vec::new(alloc);
+    numbers.push(number)?;
+    Ok(numbers)
+}

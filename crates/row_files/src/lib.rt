@@ -4,5 +4,5 @@
 mod files;
 
 pub use files::{
-    all_held, changed, changed_under, files_under, firm, held, name_of, none_held, text_of,
+    all_held, changed, changed_under, files_under, firm, held, name_of, none_held, only, text_of,
 };

@@ -2,8 +2,7 @@ use crate::counter;
 use crate::setting::plain_files;
 use mig_io::{MemFiles, MemSink};
 use palmig_top::{run, status};
-use row_files::{files_under, held};
-use std::alloc::{AllocError, Global};
+use row_files::{files_under, held, only};
 use std::test::Fail;
 
 /// The numbers of the load, the save and the put that fails, the report, the status, the files that are held after.
@@ -21,13 +20,6 @@ const FAULTS: [(u32, u32, u32, &str, u8, &[&str]); 10] = [
 ];
 
 const NEW_FILES: [&str; 3] = ["U1.jed", "plan", "net"];
-
-/// The one number of a call that fails.
-fn only(alloc: Global, number: u32) -> Result<Vec<u32>, AllocError> {
-    let mut numbers = Vec::new(alloc);
-    numbers.push(number)?;
-    Ok(numbers)
-}
 
 #[test]
 fn each_call_fails(rt: HostRuntime) -> Result<(), Fail> {
