@@ -1,6 +1,6 @@
 -- The variables and the nodes of a board, and what its parts say of its equations.
-use Rattle.std.proofs.Common.{ℕ, ◌≡◌, ◌<◌, true, List, length, get_or, Option, Some, None, refl, sym, ap, ◌∙◌, subst, arith, zero-add}
-use Rattle.std.specs.Prelude.{◌==◌, slice_get, if◌then◌else◌}
+use Rattle.std.proofs.Common.{ℕ, ◌≡◌, ◌<◌, Bool, true, false, List, length, get_or, Option, Some, None, refl, sym, ap, ◌∙◌, subst, arith, zero-add}
+use Rattle.std.specs.Prelude.{◌==◌, slice_get, slice_index_or, if◌then◌else◌}
 use Rattle.std.proofs.lemmas.Bool.{cond-false, ne_eqb}
 use Rattle.std.proofs.lemmas.List.{length-map}
 use Rattle.std.proofs.lemmas.Option.{slice_get-get_or, get_or_from_slice_get, slice_get_within}
@@ -18,6 +18,9 @@ use Rattle.ranks.specs.declared.Ranks.{Ranks}
 use Rattle.ranks.specs.Order.{IsNode, IsOrder}
 use Rattle.ranks.specs.RankEquations.{IsRanks}
 use Rattle.ranks.proofs.OrderOfRanks.{ranks-order}
+use Rattle.mig_base.specs.Structure.{alias_of}
+use Rattle.structure.specs.declared.derived.Structure.{Structure}
+use Rattle.structure.specs.Derived.{IsStructure}
 use Rattle.board.specs.declared.Unit.{Unit as NamedUnit}
 use Rattle.board.specs.declared.tables.Tables.{Tables}
 use Rattle.mig_base.specs.declared.cells.Cell.{Cell}
@@ -101,9 +104,9 @@ place-is net chips t u d is h =
     ap (λ (ps : List ℕ). get_or ps u d) is.places ∙ get_or-made_from (register_place chips) 0 (length (units_from 0 chips)) u d within ∙ ap (register_place chips) (zero-add u)
 
 -- what a board holds, said of its value
-pub holds : {net : Wiring} {chips : List ChipCells} {c : Circuit} {r : Ranks} {t : Tables} {vars : List Var} {a n : Enable} → IsBuilt net chips c r t vars a n →
-    (b : Joined) → (let x : Joined = record { net = net; chips = chips } in x ≡ b) → IsBuilt b.net b.chips c r t vars a n
-holds {net} {chips} {c} {r} {t} {vars} {a} {n} h b e = subst (λ (x : Joined). IsBuilt x.net x.chips c r t vars a n) e h
+pub holds : {net : Wiring} {chips : List ChipCells} {c : Circuit} {r : Ranks} {t : Tables} {vars : List Var} {s : Structure} {a n : Enable} → IsBuilt net chips c r t vars s a n →
+    (b : Joined) → (let x : Joined = record { net = net; chips = chips } in x ≡ b) → IsBuilt b.net b.chips c r t vars s a n
+holds {net} {chips} {c} {r} {t} {vars} {s} {a} {n} h b e = subst (λ (x : Joined). IsBuilt x.net x.chips c r t vars s a n) e h
 
 pub drivers-at : (ws vs : List Wire) (n : ℕ) (w : Wire) → vs ≡ ws → n < length ws → w ≡ get_or vs n w → (get_or vs n w).drivers ≡ drivers_of (slice_get ws n)
 drivers-at ws vs n w same h e = ap (λ (xs : List Wire). (get_or xs n w).drivers) same ∙ sym (ap drivers_of (slice_get-get_or ws n w h))
@@ -141,3 +144,11 @@ effective-same net chip enable.Always h = refl
 effective-same net chip enable.Never h = refl
 effective-same net chip (enable.Term lits) h = refl
 effective-same net chip (enable.LowPin p) h = absurd (h p refl)
+
+-- the alias in the table
+pub alias-is : (b : Joined) (s : Structure) (n : ℕ) (d : Option (ℕ × Bool)) → IsStructure (equations_of b) (register_units b.chips) s → n < length (equations_of b).nets → get_or s.aliases n d ≡ alias_of (equations_of b) n
+alias-is b s n d is h = get_or_from_slice_get s.aliases n (alias_of (equations_of b) n) d (is.aliases.each n h)
+
+-- the flag in a table
+pub flag-is : {xs ys : List Bool} (n : ℕ) → xs ≡ ys → slice_index_or xs n false ≡ slice_index_or ys n false
+flag-is n e = ap (λ (bs : List Bool). slice_index_or bs n false) e

@@ -11,6 +11,8 @@ use Rattle.mig_base.specs.Boards.{circuit, net_of, units_from}
 use Rattle.mig_base.specs.First.{made_from}
 use Rattle.ranks.specs.declared.Ranks.{Ranks}
 use Rattle.ranks.specs.RankEquations.{IsRanks}
+use Rattle.structure.specs.declared.derived.Structure.{Structure}
+use Rattle.structure.specs.Derived.{IsStructure}
 use Rattle.board.specs.declared.tables.Tables.{Tables}
 use Rattle.board.specs.NodeNames.{net_names, register_pins}
 use Rattle.board.specs.Refusals.{first_driven, first_derived}
@@ -32,8 +34,9 @@ pub record IsPassed (c : Circuit) (r : Ranks) : Type 0 where
   pub derived : first_derived c ≡ None
   pub ranks : IsRanks c r
 
--- the equations, the ranks and the tables of a board of this wiring and these chips, its variables by rank, and the two fixed enables
-pub record IsBuilt (net : Net) (chips : List ChipCells) (c : Circuit) (r : Ranks) (t : Tables) (vars : List Var) (always never : Enable) : Type 0 where
+-- the equations, the ranks and the tables of a board of this wiring and these chips, its variables by rank, what follows from the equations,
+-- and the two fixed enables
+pub record IsBuilt (net : Net) (chips : List ChipCells) (c : Circuit) (r : Ranks) (t : Tables) (vars : List Var) (s : Structure) (always never : Enable) : Type 0 where
   pub nets : length net.nets ≤ 1024
   pub lines : length net.chips ≤ 64
   pub cells : length chips ≡ length net.chips
@@ -41,5 +44,6 @@ pub record IsBuilt (net : Net) (chips : List ChipCells) (c : Circuit) (r : Ranks
   pub passed : IsPassed c r
   pub tables : IsTables net chips t
   pub by_rank : vars ≡ map (var_of chips) r.order
+  pub structure : IsStructure (circuit net chips) (register_units chips) s
   pub enabled : always ≡ Always
   pub disabled : never ≡ Never

@@ -5,6 +5,7 @@ mod accessors;
 mod by_rank;
 mod checks;
 mod names;
+mod notions;
 mod pin_nets;
 mod tables;
 #[cfg(test)]
@@ -24,6 +25,7 @@ use mig_base::{ChipCells, Circuit, Enable, Items, Name, Net, NoMemory, Node, Pin
 use ranks::Ranks;
 use std::alloc::Global;
 use std::marker::Model;
+use structure::{Structure, structure_of};
 
 /// A unit of a board: its pin, its chip's number, the place of its cell on the chip, whether it has a register,
 /// the net of its pin, and the net of its clock, which is 0 where it has no register.
@@ -66,6 +68,7 @@ pub struct Board {
     ranks: Ranks,
     tables: Tables,
     by_rank: Items<Var>,
+    structure: Structure,
     always: Enable,
     never: Enable,
 }
@@ -78,7 +81,7 @@ impl Model for Board {
 
     ghost view = { λ b. record { net = b.net; chips = b.chips } };
 
-    ghost invariant = { λ b. IsBuilt b.net b.chips b.circuit b.ranks b.tables b.by_rank b.always b.never };
+    ghost invariant = { λ b. IsBuilt b.net b.chips b.circuit b.ranks b.tables b.by_rank b.structure b.always b.never };
 }
 
 impl Board {
@@ -96,6 +99,7 @@ impl Board {
         let tables = Tables::new(alloc, &net, chips.as_slice())?;
         let ranks = check(alloc, &circuit, &tables)?;
         let by_rank = variables_by_rank(alloc, ranks.order.items(), tables.registers.items())?;
+        let structure = structure_of(alloc, &circuit, tables.registers.items())?;
         Ok(Board {
             net,
             chips: Items::new(chips),
@@ -103,6 +107,7 @@ impl Board {
             ranks,
             tables,
             by_rank,
+            structure,
             always: Enable::Always,
             never: Enable::Never,
         })

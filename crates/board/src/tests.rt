@@ -3,7 +3,7 @@
 use crate::{Board, BoardError};
 use mig_base::{
     Cell, ChipCells, ChipLine, Enable, Form, Items, Kind, Lit, Mode, Name, Net, NetLine, NoMemory,
-    Node, PinLine, Port, Product, Pull, Read, Row, Source, Var,
+    Node, Part, PinLine, Port, Product, Pull, Read, Row, Source, Var, VarLit,
 };
 use std::alloc::Global;
 use std::test::Fail;
@@ -11,8 +11,8 @@ use std::test::Fail;
 /// A named net in short.
 type NetRow<'a> = (&'a [u8], Port);
 
-/// A cell in short: its pin, its form, the pin that enables it low, and the pin that its only term reads.
-type CellRow = (u8, Form, Option<u8>, u8);
+/// A cell in short: its pin, its form, the pin that enables it low, the pin that its only term reads, and whether its pin shows NOT Q.
+type CellRow = (u8, Form, Option<u8>, u8, bool);
 
 /// A chip in short.
 type ChipRow<'a> = (&'a [u8], Kind, &'a [CellRow]);
@@ -43,7 +43,7 @@ fn cells_of(alloc: Global, rows: &[CellRow]) -> Result<Items<Cell>, NoMemory> {
             pin: row.0,
             form: row.1,
             low: true,
-            pin_low: false,
+            pin_low: row.4,
             enable: enable_of(row.2),
             terms,
         })?;
@@ -196,7 +196,10 @@ fn refuses_a_loop(rt: HostRuntime) -> Result<(), Fail> {
     let chips: [ChipRow; 1] = [(
         b"U1",
         Kind::Pal16L8,
-        &[(17, Form::Comb, None, 18), (18, Form::Comb, None, 17)],
+        &[
+            (17, Form::Comb, None, 18, false),
+            (18, Form::Comb, None, 17, false),
+        ],
     )];
     let error = refusal(rt.alloc(), &[], &chips, &[])?;
     assert!(rt; is_loop(&error, (17, 18)));
@@ -206,7 +209,7 @@ fn refuses_a_loop(rt: HostRuntime) -> Result<(), Fail> {
 /// A cell drives an Input port.
 #[test]
 fn refuses_a_driven_input(rt: HostRuntime) -> Result<(), Fail> {
-    let chips: [ChipRow; 1] = [(b"U1", Kind::Pal16L8, &[(19, Form::Comb, None, 2)])];
+    let chips: [ChipRow; 1] = [(b"U1", Kind::Pal16L8, &[(19, Form::Comb, None, 2, false)])];
     let nets: [NetRow; 1] = [(b"I", Port::Input)];
     let error = refusal(rt.alloc(), &nets, &chips, &[wire(0, 19, 2)])?;
     assert!(rt; is_driven(&error, b"I"));
@@ -216,7 +219,7 @@ fn refuses_a_driven_input(rt: HostRuntime) -> Result<(), Fail> {
 /// A clock pin is on an inner net.
 #[test]
 fn refuses_a_derived_clock(rt: HostRuntime) -> Result<(), Fail> {
-    let chips: [ChipRow; 1] = [(b"U1", Kind::Pal16R4, &[(17, Form::Reg, Some(11), 2)])];
+    let chips: [ChipRow; 1] = [(b"U1", Kind::Pal16R4, &[(17, Form::Reg, Some(11), 2, false)])];
     let nets: [NetRow; 1] = [(b"C", Port::Inner)];
     let error = refusal(rt.alloc(), &nets, &chips, &[wire(0, 1, 2)])?;
     assert!(rt; is_derived(&error, b"U1"));
@@ -231,8 +234,8 @@ fn joined(alloc: Global) -> Result<Board, BoardError> {
         (b"Q", Port::Inner),
     ];
     let chips: [ChipRow; 2] = [
-        (b"U1", Kind::Pal16L8, &[(19, Form::Comb, None, 2)]),
-        (b"U2", Kind::Pal16R4, &[(17, Form::Reg, Some(11), 2)]),
+        (b"U1", Kind::Pal16L8, &[(19, Form::Comb, None, 2, false)]),
+        (b"U2", Kind::Pal16R4, &[(17, Form::Reg, Some(11), 2, false)]),
     ];
     let pins = [
         wire(0, 2, 4),
@@ -300,5 +303,160 @@ fn looks_up_units(rt: HostRuntime) -> Result<(), Fail> {
     assert!(rt; is_driven_by(&board, 3, 0));
     assert!(rt; is_always(&board, 1));
     assert!(rt; is_on(&board, 0, 1, 5));
+    Ok(())
+}
+
+/// Two registers on U1, and three gates on U2: Y is NOT of the register of U1.16, U1.17 and G go round, and U2.17 is on no net.
+fn noted(alloc: Global) -> Result<Board, BoardError> {
+    let nets: [NetRow; 5] = [
+        (b"C", Port::Input),
+        (b"Y", Port::Output),
+        (b"Q", Port::Inner),
+        (b"N", Port::Inner),
+        (b"G", Port::Inner),
+    ];
+    let registered: [CellRow; 2] = [
+        (16, Form::Reg, Some(11), 3, true),
+        (17, Form::Reg, Some(11), 2, false),
+    ];
+    let gates: [CellRow; 3] = [
+        (17, Form::Comb, None, 4, false),
+        (18, Form::Comb, None, 3, false),
+        (19, Form::Comb, None, 2, false),
+    ];
+    let chips: [ChipRow; 2] = [
+        (b"U1", Kind::Pal16R4, &registered),
+        (b"U2", Kind::Pal16L8, &gates),
+    ];
+    let pins = [
+        wire(0, 1, 2),
+        wire(0, 2, 6),
+        wire(0, 11, 0),
+        wire(0, 16, 5),
+        wire(0, 17, 4),
+        wire(1, 2, 5),
+        wire(1, 3, 4),
+        wire(1, 18, 6),
+        wire(1, 19, 3),
+    ];
+    board(alloc, &nets, &chips, &pins)
+}
+
+/// Whether a unit is live and absorbable as the row says.
+fn is_unit(board: &Board, unit: u32, row: (bool, bool)) -> bool {
+    (unit as usize) < board.units().len()
+        && board.is_live(unit) == row.0
+        && board.absorbable(unit) == row.1
+}
+
+/// What holds of the units: live are U1.16 and U2.19, on which Y depends, and absorbable are the gates on inner nets.
+fn are_units(board: &Board) -> bool {
+    is_unit(board, 0, (true, false))
+        && is_unit(board, 1, (false, false))
+        && is_unit(board, 2, (false, true))
+        && is_unit(board, 3, (false, true))
+        && is_unit(board, 4, (true, false))
+}
+
+/// Whether a net is pure or not, as is said.
+fn is_net(board: &Board, net: u32, pure: bool) -> bool {
+    net < board.nets() && board.is_pure(board.var(Read::OfNet(net))) == pure
+}
+
+/// Whether a register is pure or not, as is said.
+fn is_register_pure(board: &Board, register: u32, pure: bool) -> bool {
+    (register as usize) < board.registers().len()
+        && board.is_pure(board.var(Read::OfRegister(register))) == pure
+}
+
+/// Whether a net is the alias of the register of this unit, and its level Q or not, as is said.
+fn is_alias(board: &Board, net: u32, unit: u32, shows_q: bool) -> bool {
+    if net >= board.nets() {
+        return false;
+    }
+    match board.alias(net) {
+        Some((of_unit, is_q)) => of_unit == unit && is_q == shows_q,
+        None => false,
+    }
+}
+
+/// Whether a net is no alias.
+fn is_no_alias(board: &Board, net: u32) -> bool {
+    net < board.nets() && board.alias(net).is_none()
+}
+
+/// Whether a part of a unit is one product of this literal.
+fn is_literal(board: &Board, unit: u32, part: Part, want: VarLit) -> bool {
+    if unit as usize >= board.units().len() {
+        return false;
+    }
+    match board.products(unit, part) {
+        [product] => match product.lits.items() {
+            [literal] => *literal == want,
+            _ => false,
+        },
+        _ => false,
+    }
+}
+
+/// Whether a part of a unit is an empty product.
+fn is_empty_product(board: &Board, unit: u32, part: Part) -> bool {
+    if unit as usize >= board.units().len() {
+        return false;
+    }
+    match board.products(unit, part) {
+        [product] => product.lits.items().is_empty(),
+        _ => false,
+    }
+}
+
+/// Whether a part of a unit has no product.
+fn has_no_product(board: &Board, unit: u32, part: Part) -> bool {
+    (unit as usize) < board.units().len() && board.products(unit, part).is_empty()
+}
+
+/// What holds of the nodes: Q shows the register of U1.17, N the complement of that of U1.16, which takes an open pin.
+fn are_nodes(board: &Board) -> bool {
+    is_net(board, 2, true)
+        && is_net(board, 3, false)
+        && is_net(board, 4, true)
+        && is_net(board, 5, false)
+        && is_register_pure(board, 0, false)
+        && is_register_pure(board, 1, true)
+}
+
+/// What holds of the alias nets.
+fn are_aliases(board: &Board) -> bool {
+    is_no_alias(board, 3) && is_alias(board, 4, 1, true) && is_alias(board, 5, 0, false)
+}
+
+/// What holds of the products: literals of alias nets are those of registers by unit.
+fn are_products(board: &Board) -> bool {
+    let register = VarLit {
+        var: Var::Reg(0),
+        high: false,
+    };
+    let open = VarLit {
+        var: Var::Net(7),
+        high: true,
+    };
+    is_literal(board, 4, Part::Logic, register)
+        && is_literal(board, 0, Part::Logic, open)
+        && is_empty_product(board, 0, Part::Enable)
+        && has_no_product(board, 0, Part::Reset)
+        && has_no_product(board, 0, Part::Preset)
+        && has_no_product(board, 4, Part::Reset)
+}
+
+/// The notions of units, nodes, alias nets and products.
+#[test]
+fn looks_up_notions(rt: HostRuntime) -> Result<(), Fail> {
+    let Ok(board) = noted(rt.alloc()) else {
+        return Err(Fail::from(NoMemory));
+    };
+    assert!(rt; are_units(&board));
+    assert!(rt; are_nodes(&board));
+    assert!(rt; are_aliases(&board));
+    assert!(rt; are_products(&board));
     Ok(())
 }

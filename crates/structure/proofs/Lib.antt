@@ -5,4 +5,4 @@ pub mod NeededNodes
 pub mod Wakings
 pub mod Absorbings
 pub mod Numbered
-pub mod Signing
+pub mod Sorting

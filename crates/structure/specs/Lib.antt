@@ -5,5 +5,6 @@ pub mod Live
 pub mod Waking
 pub mod Absorbable
 pub mod Aliases
-pub mod Signs
+pub mod Sorted
 pub mod Products
+pub mod Derived

@@ -80,3 +80,11 @@ part_of p Logic = p.logic
 part_of p Enable = p.enable
 part_of p Reset = p.reset
 part_of p Preset = p.preset
+
+abbrev pub part_over : Circuit → List ℕ → Part → Option Driver → List VarProduct
+part_over c units part None = []
+part_over c units part (Some d) = part_of (unit_products c units d) part
+
+-- those of one part of a unit by its number
+abbrev pub part_products : Circuit → List ℕ → ℕ → Part → List VarProduct
+part_products c units u part = part_over c units part (slice_get c.units u)

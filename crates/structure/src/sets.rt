@@ -23,7 +23,7 @@ pub(crate) fn flags(alloc: Global, count: usize, value: bool) -> Result<Items<bo
 }
 
 /// The flag at a place, and false where there is none.
-pub(crate) fn flag_at(flags: &[bool], place: usize) -> bool
+pub fn flag_at(flags: &[bool], place: usize) -> bool
     ensures { result ≡ slice_index_or flags.now place false }
 {
     place < flags.len() && flags[place]

@@ -26,7 +26,7 @@ fn push_registers(variables: &mut Vec<Read>, registers: u32) -> Result<(), NoMem
 }
 
 /// The nets and then the registers of a board. Its numbers fit, else memory would not hold it.
-pub(crate) fn all_variables(alloc: Global, circuit: &Circuit) -> Result<Vec<Read>, NoMemory>
+pub fn all_variables(alloc: Global, circuit: &Circuit) -> Result<Vec<Read>, NoMemory>
     ensures { IfOk result (λ variables. variables.items ≡ variables_all circuit.now) }
 {
     let (nets, registers) = (circuit.nets.items().len(), circuit.registers.items().len());

@@ -1,9 +1,12 @@
 use Rattle.std.proofs.Common.{ℕ, List, map, sym, ap, subst, ◌∙◌}
 use Rattle.mig_base.specs.declared.cells.ChipCells.{ChipCells}
 use Rattle.mig_base.specs.declared.cells.Enable.TheVariants.{Always, Never}
+use Rattle.mig_base.specs.declared.circuit.Circuit.{Circuit}
 use Rattle.mig_base.specs.declared.circuit.Read.{Read}
 use Rattle.mig_base.specs.Boards.{circuit}
+use Rattle.structure.specs.Derived.{IsStructure}
 use Rattle.board.specs.Built.{IsBuilt, IsTables}
+use Rattle.board.specs.UnitLists.{register_units}
 use Rattle.board.specs.Variables.{var_by}
 use Rattle.board.proofs.AcceptedLaws.{equations-few}
 use Rattle.board.proofs.BoardLaws.{equations-accepted}
@@ -18,15 +21,18 @@ invariant_of-result c =
     let net = c.args.net in
     let tables = c.in_ok-tables.tables in
     let ranks = c.in_ok-ranks.ranks in
+    let equations = c.in_ok-circuit.ensures ∙ ap (circuit net) c.as_slice.ensures.value in
     let are : IsTables net c.args.chips.items tables = subst (λ (chips : List ChipCells). IsTables net chips tables) c.as_slice-2.ensures.value c.in_ok-tables.ensures in
-    subst (λ (chips : List ChipCells). IsBuilt net chips c.in_ok-circuit.circuit ranks tables c.in_ok-by_rank.by_rank Always Never) (sym c.new-2.ensures) (record {
+    subst (λ (chips : List ChipCells). IsBuilt net chips c.in_ok-circuit.circuit ranks tables c.in_ok-by_rank.by_rank c.in_ok-structure.structure Always Never) (sym c.new-2.ensures) (record {
       nets = c.requires.nets;
       lines = c.requires.chips;
       cells = c.requires.cells;
-      equations = c.in_ok-circuit.ensures ∙ ap (circuit net) c.as_slice.ensures.value;
+      equations = equations;
       passed = c.in_ok-ranks.ensures.passed;
       tables = are;
       by_rank = c.in_ok-by_rank.ensures ∙ ap (λ (nodes : List Read). map (var_by c.items-2.result.now) nodes) c.items.ensures ∙ ap (λ (units : List ℕ). map (var_by units) ranks.order) (c.items-2.ensures ∙ are.registers);
+      structure = subst (λ (d : Circuit). IsStructure d (register_units c.args.chips.items) c.in_ok-structure.structure) equations
+          (subst (λ (units : List ℕ). IsStructure c.in_ok-circuit.circuit units c.in_ok-structure.structure) (c.items-3.ensures ∙ are.registers) c.in_ok-structure.ensures);
       enabled = refl;
       disabled = refl;
     })
