@@ -1,10 +1,10 @@
 -- Levels that don't float.
-use Rattle.std.proofs.Common.{ℕ, zero, suc, ◌≡◌, ◌≢◌, ◌<◌, Bool, true, false, cond, List, [], ◌∷◌, length, replicate, Option, Some, None, Result, Ok, Err, refl, sym, ap, ◌∙◌, subst, arith}
+use Rattle.std.proofs.Common.{ℕ, zero, suc, ◌≡◌, ◌≢◌, ◌<◌, Bool, true, false, List, [], ◌∷◌, length, replicate, Option, Some, None, refl, sym, ap, ◌∙◌, subst, arith}
 use Rattle.std.specs.Prelude.{slice_index_or, if◌then◌else◌}
 use Rattle.std.proofs.lemmas.List.{get_or-replicate, length-replicate}
 use Rattle.mig_base.specs.declared.levels.Level.{Level}
-use Rattle.mig_base.specs.declared.levels.Level.TheVariants.{Zero, One, Z, X}
-use Rattle.mig_base.specs.Levels.{not3, and3, or3}
+use Rattle.mig_base.specs.declared.levels.Level.TheVariants.{Z}
+use Rattle.mig_base.specs.Levels.{not3, or3}
 use Rattle.mig_base.specs.Values.{inverted, sum_value, row_value}
 use Rattle.mig_base.specs.declared.circuit.Register.{Register}
 use Rattle.mig_base.specs.declared.circuit.Circuit.{Circuit}

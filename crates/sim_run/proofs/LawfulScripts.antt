@@ -1,5 +1,5 @@
 -- The inputs of each script that a text says are lawful for its board.
-use Rattle.std.proofs.Common.{ℕ, zero, suc, ◌≡◌, ◌⊎◌, ◌<◌, ◌≤◌, ◌+◌, Bool, true, false, cond, ◌&&◌, List, [], ◌∷◌, ◌++◌, map, filter, drop, length, Option, Some, None, Result, Ok, Err, refl, sym, ap, ◌∙◌, subst, arith, inl, inr}
+use Rattle.std.proofs.Common.{ℕ, ◌≡◌, ◌⊎◌, ◌<◌, ◌≤◌, ◌+◌, Bool, true, false, cond, ◌&&◌, List, [], ◌∷◌, ◌++◌, map, filter, drop, length, Result, Ok, Err, refl, sym, ap, ◌∙◌, arith, inl, inr}
 use Rattle.std.specs.Prelude.{All, IfOk, if◌then◌else◌}
 use Rattle.std.specs.List.{AllByRecursion, cons_option}
 use Rattle.std.proofs.lemmas.Bool.{and_parts, cases_lt}
@@ -16,11 +16,11 @@ use Rattle.mig_base.specs.declared.nets.Port.TheVariants as port
 use Rattle.mig_base.specs.declared.nets.Pull.{Pull}
 use Rattle.mig_base.specs.declared.nets.Pull.TheVariants as pull
 use Rattle.mig_base.specs.declared.circuit.NetKind.{NetKind}
-use Rattle.mig_base.specs.declared.circuit.NetKind.TheVariants.{Ground, Power, Handed, Shared, Inner}
+use Rattle.mig_base.specs.declared.circuit.NetKind.TheVariants.{Inner}
 use Rattle.mig_base.specs.Boards.{At, ChipUnit, circuit, is_handed, kind_at, kinds_from, kinds_of, privates, units_from, wires_from}
 use Rattle.mig_base.specs.WrittenBoard.{IsWritable}
-use Rattle.settle.specs.SameBehaviour.{IsBit, IsHandable, IsLawful, IsLawfulAt}
-use Rattle.steps.specs.Configs.{is_handed as takes_level, handed_count}
+use Rattle.settle.specs.SameBehaviour.{IsBit, IsHandable, IsLawfulAt}
+use Rattle.steps.specs.Configs.{is_handed as takes_level}
 use Rattle.script_text.specs.declared.scripts.Script.{Script}
 use Rattle.script_text.specs.declared.scripts.ScriptError.{ScriptError}
 use Rattle.script_text.specs.ScriptText.{port_on, ports_from, ports_of, script_of_text}

@@ -1,3 +1,4 @@
 pub mod Known
 pub mod LawfulScripts
 pub mod Running
+pub mod PureRuns

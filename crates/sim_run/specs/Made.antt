@@ -5,6 +5,7 @@ use Rattle.mig_base.specs.declared.levels.Level.TheVariants.{Z}
 use Rattle.mig_base.specs.declared.circuit.Circuit.{Circuit}
 use Rattle.mig_base.specs.declared.circuit.Levels.{Levels}
 use Rattle.settle.specs.SameBehaviour.{IsLawful}
+use Rattle.pure_levels.specs.PureLevels.{HasPureStored, HasPureLevels}
 use Rattle.steps.specs.declared.config.Config.{Config}
 use Rattle.steps.specs.Configs.{IsMadeFor, handed_count}
 use Rattle.steps.specs.Rules.{HasLengths}
@@ -34,3 +35,8 @@ pub record IsConfigFor (c : Circuit) (config : Config) : Type 0 where
   pub stored : AreKnown config.stored
   pub visible : AreKnown config.levels.visible
   pub lawful : config.stepped ≡ true → IsLawful c config.last
+
+-- its pure registers store 0 or 1 and, once a step was made, all its pure nodes are 0 or 1
+pub record IsPureConfig (c : Circuit) (config : Config) : Type 0 where
+  pub stored : HasPureStored c config.stored
+  pub levels : config.stepped ≡ true → HasPureLevels c config.levels

@@ -1,6 +1,8 @@
 //! Settled levels, steps and whole runs of a board, and the scripts that say what it is handed.
 #![tactic(auto)]
 
+#[cfg(test)]
+mod pure_tests;
 mod scripts;
 mod settling;
 mod stepping;

@@ -5,6 +5,7 @@ ghost use Rattle.settle.specs.Runs.{IsRun};
 ghost use Rattle.script_text.specs.ScriptText.{ports_of, script_of_text};
 ghost use Rattle.script_text.specs.Statements.{Answers};
 ghost use Rattle.script_text.specs.WrittenScript.{IsWritableScript, written_script};
+ghost use Rattle.pure_levels.specs.PureLevels.{ShowsPure};
 ghost use Rattle.board.specs.Joined.{equations_of};
 ghost use Rattle.sim_run.specs.Made.{IsInputFor};
 
@@ -39,12 +40,13 @@ pub fn write_script(alloc: Global, b: &Board, script: &Script) -> Result<Vec<u8>
     script_text::write_script(alloc, b.net(), script)
 }
 
-/// What a board shows from power-up after each step of a script. Only want of memory refuses it.
+/// What a board shows from power-up after each step of a script: 0 or 1 at each pure port. Only want of memory refuses it.
 pub fn run_script(alloc: Global, b: &Board, script: &Script) -> Result<Vec<Shown>, NoMemory>
     requires script { All (λ given. IsInputFor (equations_of b.now) given.levels) script.now.steps }
     ensures run { IfOk result (λ showns. IsRun (equations_of b.now) (map (λ given. given.levels) script.now.steps) (map (λ shown. shown.levels) showns.items)) }
     ensures only { IfOk result (λ showns. (others : List (List LevelOf)) → IsRun (equations_of b.now) (map (λ given. given.levels) script.now.steps) others →
         map (λ shown. shown.levels) showns.items ≡ others) }
+    ensures pure { IfOk result (λ showns. All (λ shown. ShowsPure (equations_of b.now) shown.levels) showns.items) }
 {
     let circuit = b.circuit();
     let order = b.order();

@@ -2,8 +2,9 @@ ghost use Rattle.std.specs.Prelude.{◌≡◌, true, length, Some, None, IfOk};
 ghost use Rattle.settle.specs.Settled.{IsSettled};
 ghost use Rattle.settle.specs.Runs.{IsStep, power_up as stored_at_start, shown_levels};
 ghost use Rattle.steps.specs.Configs.{last_of};
+ghost use Rattle.pure_levels.specs.PureLevels.{HasPureStored};
 ghost use Rattle.board.specs.Joined.{equations_of};
-ghost use Rattle.sim_run.specs.Made.{IsInputFor, IsConfigFor};
+ghost use Rattle.sim_run.specs.Made.{IsInputFor, IsConfigFor, IsPureConfig};
 
 use board::Board;
 use mig_base::{Level, NoMemory};
@@ -17,13 +18,14 @@ pub fn power_up(alloc: Global, b: &Board) -> Result<Config, NoMemory>
     ensures stored { IfOk result (λ config. config.stored ≡ stored_at_start (equations_of b.now)) }
     ensures last { IfOk result (λ config. last_of config ≡ None) }
     ensures made { IfOk result (IsConfigFor (equations_of b.now)) }
+    ensures pure { IfOk result (IsPureConfig (equations_of b.now)) }
 {
     steps::power_up(alloc, b.circuit())
 }
 
 /// One step of a board to new inputs. The first step only sets the inputs. In a later one each register whose clock rises
-/// takes what the levels before the step make of it, and every other its visible Q; then the levels settle. It takes no
-/// memory.
+/// takes what the levels before the step make of it, and every other its visible Q; then the levels settle. Where pure
+/// registers store 0 or 1, they do so again, and all pure nodes settle at 0 or 1. It takes no memory.
 pub fn step(b: &Board, config: &mut Config, inputs: &Inputs)
     requires config { IsConfigFor (equations_of b.now) config.old }
     requires inputs { IsInputFor (equations_of b.now) inputs.now.levels }
@@ -32,6 +34,7 @@ pub fn step(b: &Board, config: &mut Config, inputs: &Inputs)
     ensures last { last_of config.new ≡ Some inputs.now.levels }
     ensures settled { IsSettled (equations_of b.now) config.new.stored inputs.now.levels config.new.levels }
     ensures made { IsConfigFor (equations_of b.now) config.new }
+    ensures pure { HasPureStored (equations_of b.now) config.old.stored → IsPureConfig (equations_of b.now) config.new }
 {
     steps::step(b.circuit(), b.order(), config, inputs.levels.items());
 }

@@ -1,4 +1,4 @@
-use Rattle.std.proofs.Common.{ℕ, ◌≡◌, ◌<◌, ◌≤◌, ◌++◌, ◌∷◌, [], List, map, length, get_or, sym, ap, subst, ◌∙◌, arith}
+use Rattle.std.proofs.Common.{◌≡◌, ◌<◌, ◌≤◌, ◌++◌, ◌∷◌, [], List, length, get_or, sym, ap, subst, ◌∙◌, arith}
 use Rattle.std.proofs.lemmas.List.{map-append}
 use Rattle.mig_base.specs.declared.levels.Level.{Level}
 use Rattle.mig_base.specs.declared.circuit.Circuit.{Circuit}
@@ -9,6 +9,7 @@ use Rattle.steps.proofs.OrderRanks.{order-runs-once}
 use Rattle.steps.proofs.StepLaws.{run-more, run-ends}
 use Rattle.script_text.specs.declared.scripts.Inputs.{Inputs}
 use Rattle.board.specs.Joined.{equations_of}
+use Rattle.sim_run.proofs.PureRuns.{board-runs}
 use Rattle.sim_run.proofs.Running.{levels_of, levels-at, levels-long, levels-short, shown_of}
 use Rattle.sim_run.proofs.scripts.run_script.Goals as goal
 
@@ -46,3 +47,7 @@ returns-clause-run c =
 pub returns-clause-only : goal.returns-clause-only
 returns-clause-only c =
     λ others run. order-runs-once (equations_of c.args.b.now) c.order-order.result.now c.order-order.ensures (levels_of c.args.script.now.steps) _ others (returns-clause-run c) run
+
+pub returns-clause-pure : goal.returns-clause-pure
+returns-clause-pure c =
+    board-runs c.args.b.now c.args.script.now.steps c.loop-inputs.showns.items c.circuit-circuit.ensures.accepted c.requires.script (returns-clause-run c)

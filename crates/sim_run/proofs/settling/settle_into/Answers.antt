@@ -1,7 +1,9 @@
 use Rattle.std.proofs.Common.{subst}
 use Rattle.mig_base.specs.declared.circuit.Circuit.{Circuit}
+use Rattle.board.specs.Joined.{equations_of}
 use Rattle.steps.specs.Rules.{HasLengths}
 use Rattle.sim_run.proofs.Known.{known-visible}
+use Rattle.sim_run.proofs.PureRuns.{board-settles, same-settled}
 use Rattle.sim_run.proofs.settling.settle_into.Goals as goal
 
 pub returns-clause-made : goal.returns-clause-made
@@ -9,3 +11,9 @@ returns-clause-made c = record {
   lengths = subst (λ (board : Circuit). HasLengths board c.settle_into.new.out) c.circuit.ensures.circuit c.settle_into.ensures.lengths;
   known = known-visible c.circuit.result.now c.items.result.now c.items-2.result.now c.settle_into.new.out c.settle_into.ensures.settled;
 }
+
+pub returns-clause-pure : goal.returns-clause-pure
+returns-clause-pure c =
+    board-settles c.args.b.now c.args.state.now.stored c.args.inputs.now.levels c.settle_into.new.out c.circuit.ensures.accepted c.requires.inputs.lawful
+    (same-settled c.circuit.result.now (equations_of c.args.b.now) c.args.state.now.stored c.items.result.now c.items-2.result.now c.args.inputs.now.levels c.settle_into.new.out
+    c.circuit.ensures.circuit c.items.ensures c.items-2.ensures c.settle_into.ensures.settled)

@@ -1,9 +1,10 @@
-use Rattle.std.proofs.Common.{sym, subst, ◌∙◌}
+use Rattle.std.proofs.Common.{refl, sym, subst, ◌∙◌}
 use Rattle.mig_base.specs.declared.circuit.Circuit.{Circuit}
 use Rattle.settle.specs.SameBehaviour.{IsLawful}
 use Rattle.steps.specs.Configs.{IsMadeFor, last_of}
 use Rattle.board.specs.Joined.{equations_of}
 use Rattle.sim_run.proofs.Known.{known-visible, known-step, last-given, was-stepped}
+use Rattle.sim_run.proofs.PureRuns.{board-steps, same-settled, same-step}
 use Rattle.sim_run.proofs.stepping.step.Goals as goal
 
 pub returns-clause-made : goal.returns-clause-made
@@ -19,3 +20,14 @@ returns-clause-made c =
 
 pub returns-clause-stepped : goal.returns-clause-stepped
 returns-clause-stepped c = was-stepped c.step.new.config c.items.result.now c.step.ensures.last
+
+pub returns-clause-pure : goal.returns-clause-pure
+returns-clause-pure c =
+    let board = c.circuit.result.now in
+    let old = c.args.config.now in
+    let new = c.step.new.config in
+    let given = c.items.result.now in
+    let levels = c.args.inputs.now.levels in
+    board-steps c.args.b.now old new levels c.circuit.ensures.accepted c.requires.config c.requires.inputs.lawful
+    (same-step board (equations_of c.args.b.now) old.stored (last_of old) given levels new.stored c.circuit.ensures.circuit c.items.ensures c.step.ensures.step)
+    (same-settled board (equations_of c.args.b.now) new.stored new.stored given levels new.levels c.circuit.ensures.circuit refl c.items.ensures c.step.ensures.settled)

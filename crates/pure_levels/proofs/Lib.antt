@@ -1,0 +1,4 @@
+pub mod Bits
+pub mod Units
+pub mod Nodes
+pub mod Stepping
