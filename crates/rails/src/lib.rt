@@ -107,6 +107,13 @@ impl Rails {
         Ok(Rails { graph, vars, rails })
     }
 
+    /// The variables, each with whether it is pure, in order.
+    pub fn vars(&self) -> &[(Var, bool)]
+        ensures { result.now ≡ self.now.vars }
+    {
+        self.vars.as_slice()
+    }
+
     /// Lends the graph.
     pub fn graph(&mut self) -> &mut Graph
         ensures graph { result.now ≡ self.entry.now.graph }

@@ -60,6 +60,7 @@ fn either(alloc: Global, rails: &mut Rails) -> Result<Ref, NoMemory>
 #[test]
 fn literals_by_place(rt: HostRuntime) -> Result<(), Fail> {
     let rails = two_variables(rt.alloc())?;
+    assert_eq!(rt; rails.vars().len(), 2);
     assert!(rt; rails.literal(0, true) == literal(A, true));
     assert!(rt; rails.literal(1, true) == literal(A, false));
     assert!(rt; rails.literal(2, false) == literal(B, false));
