@@ -1,0 +1,9 @@
+pub mod Opposites
+pub mod MirroredLaws
+pub mod LevelLaws
+pub mod PairLaws
+pub mod OrderLaws
+pub mod Existence
+pub mod JoiningLaws
+pub mod JoinedLaws
+pub mod TestLaws

@@ -1,0 +1,3 @@
+pub mod JoinedLevels
+pub mod JoinedPart
+pub mod Pairs
