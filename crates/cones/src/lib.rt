@@ -10,3 +10,4 @@ mod tests;
 
 pub use absorbed::absorbed_nets;
 pub use cone::cone_of;
+pub use pass::unit_at_net;

@@ -7,8 +7,8 @@ use crate::marks::Marks;
 use board::Board;
 use mig_base::{Part, Read, Var, VarProduct};
 
-/// The unit of a net that is absorbed.
-pub(crate) fn unit_at_net(nets: &[Option<u32>], net: u32) -> Option<u32>
+/// The absorbed unit that alone drives a net, by the table that `absorbed_nets` makes. None where there is none.
+pub fn unit_at_net(nets: &[Option<u32>], net: u32) -> Option<u32>
     ensures { result ≡ unit_at nets.now net }
 {
     let net = net as usize;

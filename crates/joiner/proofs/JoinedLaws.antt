@@ -16,7 +16,8 @@ use Rattle.cones.specs.AbsorbedNets.{AreAbsorbedNets, AreAbsorbable}
 use Rattle.cones.specs.Joined.{Inverted, Reading, IsCone, ReadsAbsorbed, unit_part, inverted_read}
 use Rattle.joiner.specs.JoinedLevels.{inverted_level}
 use Rattle.joiner.specs.JoinedPart.{ReadsVariables, IsJoinedPart, HasJoinedValue}
-use Rattle.joiner.specs.Pairs.{unit_at, NamesAbsorbable, AreProper, ReadsEither, ReadsNets, ReadPairs, IsWithin, HasPairs, terms_known}
+use Rattle.cones.specs.Marked.{unit_at}
+use Rattle.joiner.specs.Pairs.{NamesAbsorbable, AreProper, ReadsEither, ReadsNets, ReadPairs, IsWithin, HasPairs, terms_known}
 use Rattle.joiner.specs.declared.pairs.Pair.{Pair}
 use Rattle.joiner.proofs.LevelLaws.{read_under, levels_read, inverted_under, inverted_driven, between_under, holds_under}
 use Rattle.joiner.proofs.Existence.{reading_exists}

@@ -27,7 +27,8 @@ use Rattle.cones.specs.AbsorbedNets.{AreAbsorbedNets, AreAbsorbable}
 use Rattle.cones.specs.Joined.{Reading, StandsIn, itself, through, IsAbsorbed, unit_part, terms_read, inverted_read}
 use Rattle.cones.proofs.PartReads.{net-read}
 use Rattle.joiner.specs.JoinedPart.{ReadsVariables}
-use Rattle.joiner.specs.Pairs.{unit_at, pair_at, pair_named, pair_by, is_pair, is_listed, is_known, lits_known, terms_known, IsProperPair, AreProper, ReadsPair, Reads, ReadsEither, AreReadings, opposite_reading, IsPairOf, IsNetPair, IsJoinedNode, ReadsNets, ReadPairs, IsWithin, HasPairs}
+use Rattle.cones.specs.Marked.{unit_at}
+use Rattle.joiner.specs.Pairs.{pair_at, pair_named, pair_by, is_pair, is_listed, is_known, lits_known, terms_known, IsProperPair, AreProper, ReadsPair, Reads, ReadsEither, AreReadings, opposite_reading, IsPairOf, IsNetPair, IsJoinedNode, ReadsNets, ReadPairs, IsWithin, HasPairs}
 use Rattle.joiner.specs.declared.pairs.Pair.{Pair}
 use Rattle.joiner.proofs.Opposites.{not_not, terms_turned, inverted_turned}
 use Rattle.joiner.proofs.MirroredLaws.{literal_mirrored}

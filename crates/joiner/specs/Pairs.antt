@@ -17,12 +17,9 @@ use Rattle.board.specs.Joined.{Joined}
 use Rattle.rails.specs.Variables.{all_rails, same_var}
 use Rattle.rails.specs.Points.{mirror, IsProper}
 use Rattle.cones.specs.Joined.{Inverted, Reading, Names, IsAbsorbed, unit_part, inverted_read}
+use Rattle.cones.specs.Marked.{unit_at}
 use Rattle.joiner.specs.JoinedPart.{ReadsVariables}
 use Rattle.joiner.specs.declared.pairs.Pair.{Pair}
-
--- the absorbed unit that a table names for a net
-abbrev pub unit_at : List (Option ℕ) → ℕ → Option ℕ
-unit_at nets n = slice_index_or nets n None
 
 -- each unit of the table is absorbable
 abbrev pub NamesAbsorbable : Circuit → List (Option ℕ) → Type 0

@@ -6,24 +6,17 @@ ghost use Rattle.rails.specs.Variables.{IsFit};
 ghost use Rattle.ranks.specs.Order.{IsNode, IsOrder};
 ghost use Rattle.cones.specs.AbsorbedNets.{AreAbsorbedNets, AreAbsorbable};
 ghost use Rattle.cones.specs.Joined.{inverted_read};
-ghost use Rattle.joiner.specs.Pairs.{terms_known, AreProper, ReadsEither, IsPairOf, IsNetPair, IsJoinedNode, ReadPairs, HasPairs, NamesAbsorbable, unit_at, pair_by as pair_of_both};
+ghost use Rattle.joiner.specs.Pairs.{terms_known, AreProper, ReadsEither, IsPairOf, IsNetPair, IsJoinedNode, ReadPairs, HasPairs, NamesAbsorbable, pair_by as pair_of_both};
 
 use crate::pairs::{Pair, are_known, no_pairs};
 use crate::parts::{is_inverted, part_terms};
 use crate::sums::sum;
 use bdd::Ref;
 use board::Board;
+use cones::unit_at_net;
 use mig_base::{NoMemory, Part, Read, Var, VarProduct};
 use rails::Rails;
 use std::alloc::Global;
-
-/// The absorbed unit of a net, if one alone drives it.
-fn unit_of(nets: &[Option<u32>], net: u32) -> Option<u32>
-    ensures { result ≡ unit_at nets.now net }
-{
-    let net = net as usize;
-    if net < nets.len() { nets[net] } else { None }
-}
 
 /// Both literals of a sum and of its inverse, the other way round where the sum is inverted.
 fn pair_by(low: bool, plain: Ref, inverse: Ref) -> Pair
@@ -105,7 +98,7 @@ fn net_pair(
     ensures canonical { IsCanonical rails.new.graph }
     ensures pair { IfOk result (IsNetPair board.now nets.now rails.old.vars rails.new.graph pairs.now net) }
 {
-    let Some(unit) = unit_of(nets, net) else {
+    let Some(unit) = unit_at_net(nets, net) else {
         return Ok(None);
     };
     let terms = part_terms(board, unit, Part::Logic);
