@@ -23,7 +23,7 @@ fn write_source(text: &mut String, gate: usize, second: bool) -> Result<(), NoMe
     if gate < PORTS / 2 {
         writeln!(text, "I{place}")?;
     } else {
-        writeln!(text, "W{place}")?;
+        writeln!(text, "X{place}")?;
     }
     Ok(())
 }
@@ -39,7 +39,7 @@ fn write_gates(text: &mut String) -> Result<(), NoMemory> {
         write!(text, "pin U{chip} {second} ")?;
         write_source(text, gate, true)?;
         let pin = 19 - slot;
-        writeln!(text, "pin U{chip} {pin} W{gate}")?;
+        writeln!(text, "pin U{chip} {pin} X{gate}")?;
     }
     Ok(())
 }
@@ -48,7 +48,7 @@ fn write_gates(text: &mut String) -> Result<(), NoMemory> {
 fn write_nets(text: &mut String, port: &str) -> Result<(), NoMemory> {
     for number in 0..PORTS {
         writeln!(text, "net I{number} {port}")?;
-        writeln!(text, "net W{number}")?;
+        writeln!(text, "net X{number}")?;
     }
     Ok(())
 }
@@ -61,7 +61,7 @@ fn wiring_text(alloc: Global, port: &str) -> Result<String, NoMemory> {
         writeln!(text, "chip U{chip} PAL16L8")?;
     }
     write_gates(&mut text)?;
-    text.push_str("pin U7 2 W30\npin U7 18 W31\npin U7 1 W31\npin U7 19 Y\nend\n")?;
+    text.push_str("pin U7 2 X30\npin U7 18 X31\npin U7 1 X31\npin U7 19 Y\nend\n")?;
     Ok(text)
 }
 
