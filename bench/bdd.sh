@@ -1,12 +1,12 @@
 #!/usr/bin/env bash
-# Times the program crates/bdd_bench: the nodes that each work made and nanoseconds a made node, and for the random
+# Times the program crates/benches: the nodes that each work on diagrams made and nanoseconds a made node, and for the random
 # calls, whose nodes all stand in one graph, also the bytes a node at the peak, memo and program included.
 set -euo pipefail
-cd "$(dirname "$0")/../crates/bdd_bench"
+cd "$(dirname "$0")/../crates/benches"
 rt run > out/bench.log 2>&1
-program=$(find "$PWD/out" -maxdepth 2 -type f -name bdd_bench -perm -u+x | head -n 1)
-for work in parity carry random; do
-  /usr/bin/time -f '%U %S %M' -o out/bench.time "$program" "$work" > out/bench.count
+program=$(find "$PWD/out" -maxdepth 2 -type f -name benches -perm -u+x | head -n 1)
+for work in parity:10000 carry:10000 random:1000000; do
+  /usr/bin/time -f '%U %S %M' -o out/bench.time "$program" "${work%:*}" "${work#*:}" > out/bench.count
   read -r name nodes < out/bench.count
   read -r user system kilobytes < out/bench.time
   awk -v name="$name" -v nodes="$nodes" -v seconds="$user $system" -v kilobytes="$kilobytes" 'BEGIN {

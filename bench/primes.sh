@@ -1,14 +1,14 @@
 #!/usr/bin/env bash
-# Times the program crates/primes_bench: the primes of the parity of 13 variables, and the primes and then the covers of
-# 1,000 random functions of 12 variables. Prints the products that were found, the seconds, the functions a second, and
-# the KiB at the peak, program included. Fails where the parity takes 2 s or more.
+# Times the program crates/benches: the primes of the parity of 13 variables, and the primes and then the covers of 1,000 random
+# functions of 12 variables. Prints the products that were found, the seconds, the functions a second, and the KiB at the peak,
+# program included. Fails where the parity takes 2 s or more.
 set -euo pipefail
-cd "$(dirname "$0")/../crates/primes_bench"
+cd "$(dirname "$0")/../crates/benches"
 rt run > out/bench.log 2>&1
-program=$(find "$PWD/out" -maxdepth 2 -type f -name primes_bench -perm -u+x | head -n 1)
-for work in parity primes covers; do
+program=$(find "$PWD/out" -maxdepth 2 -type f -name benches -perm -u+x | head -n 1)
+for work in parity_primes primes covers; do
   functions=1000
-  if [ "$work" = parity ]; then functions=1; fi
+  if [ "$work" = parity_primes ]; then functions=1; fi
   /usr/bin/time -f '%U %S %M' -o out/bench.time "$program" "$work" "$functions" > out/bench.count
   read -r name products < out/bench.count
   read -r user system kilobytes < out/bench.time
@@ -18,6 +18,6 @@ for work in parity primes covers; do
     printf "%s: %d products, %.2f s", name, products, total
     if (functions > 1) printf ", %.0f functions a second", functions / total
     printf ", %d KiB\n", kilobytes
-    exit name == "parity" && total >= 2
+    exit name == "parity_primes" && total >= 2
   }'
 done

@@ -9,6 +9,8 @@ use Rattle.mig_base.specs.Names.{is_name, is_stem}
 use Rattle.answers.specs.declared.exit.Exit.{Exit}
 use Rattle.answers.specs.declared.exit.Exit.TheVariants.{Usage, Refused, Memory}
 use Rattle.answers.specs.declared.exit.Refusal.TheVariants.{Clash}
+use Rattle.answers.specs.Exits.{Class, class_of}
+use Rattle.answers.specs.Exits.Class.{Worded, Wanting}
 use Rattle.answers.specs.declared.words.Command.{Command}
 use Rattle.answers.specs.declared.words.Command.TheVariants as command
 use Rattle.answers.specs.declared.words.Migration.{Migration}
@@ -80,13 +82,16 @@ IsOrUsage said (Err Usage) = said ≡ None
 IsOrUsage said (Err Memory) = Unit {0}
 IsOrUsage said (Err _) = ⊥
 
+-- what words say that are refused alone, by the class of the answer; want of memory aside
+abbrev pub IsRefusedAs : Class → Result Command Exit → Exit → Type 0
+IsRefusedAs Worded said e = said ≡ Err e
+IsRefusedAs Wanting said e = Unit {0}
+IsRefusedAs _ said e = ⊥
+
 -- the command, or what the words refuse; want of memory aside
 abbrev pub IsSaid : Result Command Exit → Result Command Exit → Type 0
 IsSaid said (Ok c) = said ≡ Ok c
-IsSaid said (Err Usage) = said ≡ Err Usage
-IsSaid said (Err (Refused Clash)) = said ≡ Err (Refused Clash)
-IsSaid said (Err Memory) = Unit {0}
-IsSaid said (Err _) = ⊥
+IsSaid said (Err e) = IsRefusedAs (class_of e) said e
 
 abbrev pub IsCommandOf : List (List ℕ) → Result Command Exit → Type 0
 IsCommandOf words result = IsSaid (command_or_refusal words) result

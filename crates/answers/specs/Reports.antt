@@ -17,11 +17,11 @@ use Rattle.mig_base.specs.BoardText.{net_names}
 use Rattle.mig_base.specs.Boards.{is_port}
 use Rattle.mig_base.specs.WrittenBoard.{written_line}
 use Rattle.mig_base.specs.WrittenFuses.{four_hex}
-use Rattle.board.specs.declared.BoardError.{BoardError}
-use Rattle.board.specs.declared.BoardError.TheVariants as board_error
-use Rattle.script_text.specs.declared.scripts.ScriptError.{ScriptError}
-use Rattle.script_text.specs.declared.scripts.ScriptError.TheVariants as script_error
-use Rattle.script_text.specs.WrittenScript.{level_code}
+use Rattle.mig_base.specs.declared.nets.BoardError.{BoardError}
+use Rattle.mig_base.specs.declared.nets.BoardError.TheVariants as board_error
+use Rattle.mig_base.specs.declared.scripts.ScriptError.{ScriptError}
+use Rattle.mig_base.specs.declared.scripts.ScriptError.TheVariants as script_error
+use Rattle.mig_base.specs.Levels.{level_code}
 use Rattle.answers.specs.declared.exit.Exit.{Exit}
 use Rattle.answers.specs.declared.exit.Exit.TheVariants.{Done, Usage, Refused, Missing, ReadFault, SaveFault, OutFault, Memory}
 use Rattle.answers.specs.declared.exit.Refusal.{Refusal}

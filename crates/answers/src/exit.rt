@@ -1,9 +1,8 @@
 ghost use Rattle.std.specs.Prelude.{◌≡◌};
 ghost use Rattle.answers.specs.Exits.{status_of};
 
-use board::BoardError;
-use mig_base::{ChipError, FileName, JedError, NetError};
-use script_text::ScriptError;
+use mig_base::{BoardError, ChipError, FileName, JedError, NetError, NoMemory, ScriptError};
+use std::alloc::{AllocError, AllocFailed};
 
 /// Why a command was refused. A file is named by its whole name.
 #[derive(Drop)]
@@ -37,6 +36,36 @@ pub enum Exit {
     SaveFault(FileName),
     OutFault,
     Memory,
+}
+
+impl From<NoMemory> for Exit {
+    ghost use Rattle.answers.specs.declared.exit.Exit.TheVariants.{Memory};
+
+    ghost from_gives = { λ _ e. e ≡ Memory };
+
+    fn from(_: NoMemory) -> Self {
+        Exit::Memory
+    }
+}
+
+impl From<AllocError> for Exit {
+    ghost use Rattle.answers.specs.declared.exit.Exit.TheVariants.{Memory};
+
+    ghost from_gives = { λ _ e. e ≡ Memory };
+
+    fn from(_: AllocError) -> Self {
+        Exit::Memory
+    }
+}
+
+impl<T: Drop> From<AllocFailed<T>> for Exit {
+    ghost use Rattle.answers.specs.declared.exit.Exit.TheVariants.{Memory};
+
+    ghost from_gives = { λ _ e. e ≡ Memory };
+
+    fn from(_: AllocFailed<T>) -> Self {
+        Exit::Memory
+    }
 }
 
 /// The status that the program ends with.

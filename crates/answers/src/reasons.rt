@@ -2,9 +2,7 @@ ghost use Rattle.std.specs.Prelude.{◌≡◌, ◌++◌, ◌∷◌, [], map, sli
 ghost use Rattle.mig_base.specs.WrittenBoard.{written_line};
 ghost use Rattle.answers.specs.Reports.{reason_words, board_reason, script_reason, node_text, pin_text, name_of_net};
 
-use board::BoardError;
-use mig_base::{NetLine, Node, PinName};
-use script_text::ScriptError;
+use mig_base::{BoardError, NetLine, Node, PinName, ScriptError};
 use std::alloc::AllocError;
 
 /// The end of the line of a board that isn't accepted.

@@ -2,7 +2,7 @@ ghost use Rattle.std.specs.Prelude.{◌≡◌, ◌++◌, ◌∷◌, [], map, if�
 ghost use Rattle.std.specs.Fmt.{decimal};
 ghost use Rattle.mig_base.specs.Boards.{is_port as is_port_line, is_port_kind};
 ghost use Rattle.mig_base.specs.WrittenBoard.{written_line};
-ghost use Rattle.script_text.specs.WrittenScript.{level_code};
+ghost use Rattle.mig_base.specs.Levels.{level_code};
 ghost use Rattle.answers.specs.Reports.{accepted_line, ports_line, show_line};
 
 use mig_base::{Level, NetLine, Port};

@@ -1,10 +1,8 @@
 use super::*;
-use board::BoardError;
 use mig_base::{
-    ChipError, FileName, Items, JedError, Kind, Level, Name, NetError, NetLine, NoMemory, Node,
-    PinName, Port, Pull, Stem, file_name,
+    BoardError, ChipError, FileName, Items, JedError, Kind, Level, Name, NetError, NetLine,
+    NoMemory, Node, PinName, Port, Pull, ScriptError, Stem, file_name,
 };
-use script_text::ScriptError;
 use std::alloc::Global;
 use std::test::Fail;
 

@@ -19,7 +19,7 @@ use Rattle.equations.proofs.PrivatePins.{privates-few}
 use Rattle.ranks.specs.declared.Ranks.{Ranks}
 use Rattle.ranks.specs.RankEquations.{rank_in}
 use Rattle.ranks.proofs.RankLaws.{ranks-ranked}
-use Rattle.settle.proofs.Loops.{no-loop}
+use Rattle.ranks.proofs.NoLoops.{no-loop}
 use Rattle.board.specs.Built.{IsPassed}
 use Rattle.board.specs.Refusals.{is_derived, is_driven_input, is_input}
 use Rattle.board.proofs.ListSteps.{none-passes}

@@ -15,7 +15,8 @@ use Rattle.mig_base.specs.Accepted.{IsAccepted}
 use Rattle.mig_base.specs.Boards.{ChipUnit, circuit, driver_of, is_registered, register_of, registers_of, units_from}
 use Rattle.mig_base.proofs.ListLaws.{get_or-made_from}
 use Rattle.ranks.specs.declared.Ranks.{Ranks}
-use Rattle.ranks.specs.Order.{IsNode, IsOrder}
+use Rattle.ranks.specs.Order.{IsOrder}
+use Rattle.mig_base.specs.Reads.{IsNode}
 use Rattle.ranks.specs.RankEquations.{IsRanks}
 use Rattle.ranks.proofs.OrderOfRanks.{ranks-order}
 use Rattle.mig_base.specs.Structure.{alias_of}

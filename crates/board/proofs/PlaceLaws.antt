@@ -49,7 +49,7 @@ units-placed all j (c ∷ cs) same =
     (cells-placed all j c here 0 c.cells (λ k. let n : 0 + k ≡ k = omega arith in ap (slice_get c.cells) n))
     (units-placed all (j + 1) cs (λ k. let n : j + 1 + k ≡ j + suc k = omega arith in ap (slice_get all) n ∙ same (suc k))))
 
-zip-firsts : {X Y : Type 0} (xs : List X) (ys : List Y) (n : ℕ) (p : X × Y) → slice_get (zip xs ys) n ≡ Some p → slice_get xs n ≡ Some p.0
+pub zip-firsts : {X Y : Type 0} (xs : List X) (ys : List Y) (n : ℕ) (p : X × Y) → slice_get (zip xs ys) n ≡ Some p → slice_get xs n ≡ Some p.0
 zip-firsts [] ys n p e = cc
 zip-firsts (x ∷ xs) [] n p e = cc
 zip-firsts {X} {Y} (x ∷ xs) (y ∷ ys) zero p e = ap Some (ap (λ (q : X × Y). q.0) (same-pair (x, y) p e))

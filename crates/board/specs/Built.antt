@@ -1,5 +1,5 @@
 -- What a board holds.
-use Rattle.std.specs.Prelude.{◌≡◌, ◌≤◌, None, List, length, map}
+use Rattle.std.specs.Prelude.{◌≡◌, None, List, length, map}
 use Rattle.equations.specs.Tables.{IsTable}
 use Rattle.mig_base.specs.declared.cells.ChipCells.{ChipCells}
 use Rattle.mig_base.specs.declared.cells.Enable.{Enable}
@@ -9,6 +9,7 @@ use Rattle.mig_base.specs.declared.nets.Net.{Net}
 use Rattle.mig_base.specs.declared.nets.Var.{Var}
 use Rattle.mig_base.specs.Boards.{circuit, net_of, units_from}
 use Rattle.mig_base.specs.First.{made_from}
+use Rattle.mig_base.specs.Given.{IsGiven}
 use Rattle.ranks.specs.declared.Ranks.{Ranks}
 use Rattle.ranks.specs.RankEquations.{IsRanks}
 use Rattle.structure.specs.declared.derived.Structure.{Structure}
@@ -34,12 +35,10 @@ pub record IsPassed (c : Circuit) (r : Ranks) : Type 0 where
   pub derived : first_derived c ≡ None
   pub ranks : IsRanks c r
 
--- the equations, the ranks and the tables of a board of this wiring and these chips, its variables by rank, what follows from the equations,
+-- a wiring and chips that make a board, with their equations, ranks, tables, variables by rank, what follows from the equations,
 -- and the two fixed enables
 pub record IsBuilt (net : Net) (chips : List ChipCells) (c : Circuit) (r : Ranks) (t : Tables) (vars : List Var) (s : Structure) (always never : Enable) : Type 0 where
-  pub nets : length net.nets ≤ 1024
-  pub lines : length net.chips ≤ 64
-  pub cells : length chips ≡ length net.chips
+  pub given : IsGiven net chips
   pub equations : c ≡ circuit net chips
   pub passed : IsPassed c r
   pub tables : IsTables net chips t

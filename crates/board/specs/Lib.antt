@@ -5,3 +5,4 @@ pub mod Variables
 pub mod Enables
 pub mod Refusals
 pub mod Built
+pub mod Driven

@@ -13,8 +13,8 @@ use Rattle.mig_base.specs.declared.nets.PinName.{PinName}
 use Rattle.mig_base.specs.Accepted.{is_fixed}
 use Rattle.mig_base.specs.Boards.{circuit}
 use Rattle.ranks.specs.FirstLoop.{IsFirstLoop}
-use Rattle.board.specs.declared.BoardError.{BoardError}
-use Rattle.board.specs.declared.BoardError.TheVariants.{InDriven, DerivedClock, Loop, Memory}
+use Rattle.mig_base.specs.declared.nets.BoardError.{BoardError}
+use Rattle.mig_base.specs.declared.nets.BoardError.TheVariants.{InDriven, DerivedClock, Loop, Memory}
 use Rattle.board.specs.NodeNames.{name_by, net_names, register_pins}
 
 -- an Input port or a constant that has a driver

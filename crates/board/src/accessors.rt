@@ -1,7 +1,9 @@
 ghost use Rattle.std.specs.Prelude.{◌≡◌, ◌<◌, length, slice_get};
 ghost use Rattle.mig_base.specs.Accepted.{IsAccepted};
 ghost use Rattle.mig_base.specs.Boards.{net_of, units_from};
-ghost use Rattle.ranks.specs.Order.{IsNode, IsOrder};
+ghost use Rattle.mig_base.specs.Given.{IsGiven};
+ghost use Rattle.ranks.specs.Order.{IsOrder};
+ghost use Rattle.mig_base.specs.Reads.{IsNode};
 ghost use Rattle.board.specs.Enables.{effective_of, drivers_of};
 ghost use Rattle.board.specs.Joined.{equations_of, HasRank};
 ghost use Rattle.board.specs.NodeNames.{node_name};
@@ -16,7 +18,8 @@ use mig_base::{ChipCells, Circuit, Enable, Net, Node, Read, Var};
 impl Board {
     /// The wiring.
     pub fn net(&self) -> &Net
-        ensures { result.now ≡ self.now.net }
+        ensures net { result.now ≡ self.now.net }
+        ensures given { IsGiven self.now.net self.now.chips }
     {
         &self.net
     }

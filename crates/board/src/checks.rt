@@ -4,14 +4,13 @@ ghost use Rattle.mig_base.specs.Accepted.{is_fixed as fixed};
 ghost use Rattle.mig_base.specs.declared.circuit.Read.TheVariants.{OfNet};
 ghost use Rattle.mig_base.specs.declared.nets.PinName.{PinName as NameOfPin};
 ghost use Rattle.ranks.specs.RankEquations.{IsRanks};
-ghost use Rattle.board.specs.declared.BoardError.TheVariants.{InDriven, DerivedClock};
+ghost use Rattle.mig_base.specs.declared.nets.BoardError.TheVariants.{InDriven, DerivedClock};
 ghost use Rattle.board.specs.Built.{IsPassed};
 ghost use Rattle.board.specs.NodeNames.{name_by};
 ghost use Rattle.board.specs.Refusals.{Refuses, is_driven_input as driven_input, is_derived as derived, first_driven as the_first_driven, first_derived as the_first_derived};
 
-use crate::BoardError;
 use crate::tables::Tables;
-use mig_base::{Circuit, Items, NetKind, NoMemory, Node, Read, Register, Wire};
+use mig_base::{BoardError, Circuit, Items, NetKind, NoMemory, Node, Read, Register, Wire};
 use ranks::{RankError, Ranks, ranks_of};
 use std::alloc::Global;
 

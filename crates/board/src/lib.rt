@@ -4,24 +4,30 @@
 mod accessors;
 mod by_rank;
 mod checks;
+mod driven;
 mod names;
 mod notions;
 mod pin_nets;
 mod tables;
-#[cfg(test)]
-mod tests;
 mod unit_lists;
 
-ghost use Rattle.std.specs.Prelude.{◌≡◌, ◌≤◌, length, IfOk, IfErr};
+ghost use Rattle.std.specs.Prelude.{◌≡◌, List, IfOk, IfErr};
 ghost use Rattle.mig_base.specs.Accepted.{IsAccepted};
 ghost use Rattle.mig_base.specs.Boards.{circuit};
+ghost use Rattle.mig_base.specs.Given.{IsGiven};
+ghost use Rattle.mig_base.specs.declared.cells.ChipCells.{ChipCells as CellsOf};
+ghost use Rattle.mig_base.specs.declared.nets.BoardError.{BoardError as Refusal};
+ghost use Rattle.mig_base.specs.declared.nets.BoardError.TheVariants.{Memory};
+ghost use Rattle.mig_base.specs.declared.nets.Net.{Net as Wiring};
+ghost use Rattle.board.specs.Built.{IsTables};
 ghost use Rattle.board.specs.Refusals.{RefusesBoard};
 
 use crate::by_rank::variables_by_rank;
 use crate::checks::check;
 use crate::tables::Tables;
-use equations::circuit_of;
-use mig_base::{ChipCells, Circuit, Enable, Items, Name, Net, NoMemory, Node, PinName, Var};
+pub use driven::{unit_drives_net_of_pin, unit_drives_one_net};
+use equations::{Parts, circuit_of};
+use mig_base::{BoardError, ChipCells, Circuit, Enable, Items, Net, NoMemory, PinName, Var};
 use ranks::Ranks;
 use std::alloc::Global;
 use std::marker::Model;
@@ -37,26 +43,6 @@ pub struct Unit {
     pub registered: bool,
     pub net: u32,
     pub clock: u32,
-}
-
-/// Why a wiring and chips make no board: the first Input port or constant with a driver, the chip of the first register whose
-/// clock net is neither of these, the first loop of nodes that read one another, or want of memory.
-#[derive(Drop)]
-pub enum BoardError {
-    InDriven { net: Node },
-    DerivedClock { chip: Name },
-    Loop { cycle: Items<Node> },
-    Memory,
-}
-
-impl From<NoMemory> for BoardError {
-    ghost use Rattle.board.specs.declared.BoardError.TheVariants.{Memory};
-
-    ghost from_gives = { λ _ e. e ≡ Memory };
-
-    fn from(_: NoMemory) -> Self {
-        BoardError::Memory
-    }
 }
 
 /// A board of wiring and chips that is accepted, with all that is looked up of it.
@@ -84,19 +70,29 @@ impl Model for Board {
     ghost invariant = { λ b. IsBuilt b.net b.chips b.circuit b.ranks b.tables b.by_rank b.structure b.always b.never };
 }
 
+/// The equations and the tables of a board, from parts that are made once.
+fn converted(alloc: Global, net: &Net, chips: &[ChipCells]) -> Result<(Circuit, Tables), NoMemory>
+    requires { IsGiven net.now chips.now }
+    ensures circuit { IfOk result (λ made. made.0 ≡ circuit net.now chips.now) }
+    ensures tables { IfOk result (λ made. IsTables net.now chips.now made.1) }
+{
+    let parts = Parts::new(alloc, net, chips)?;
+    let circuit = circuit_of(alloc, &parts)?;
+    let tables = Tables::new(alloc, &parts)?;
+    Ok((circuit, tables))
+}
+
 impl Board {
-    /// The board of this wiring and these chips, one for each chip line. A refused board's wiring and chips are dropped.
+    /// The board of a wiring that a text can give and, for each chip line, the cells that some fuses make. A refused board's wiring
+    /// and chips are dropped.
     pub fn join(alloc: Global, net: Net, chips: Vec<ChipCells>) -> Result<Board, BoardError>
-        requires nets { length net.nets ≤ 1024 }
-        requires chips { length net.chips ≤ 64 }
-        requires cells { length chips.items ≡ length net.chips }
+        requires { IsGiven net chips.items }
         ensures net { IfOk result (λ board. board.net ≡ net) }
         ensures chips { IfOk result (λ board. board.chips ≡ chips.items) }
         ensures accepted { IfOk result (λ board. IsAccepted (circuit net chips.items)) }
         ensures refused { IfErr result (RefusesBoard net chips.items) }
     {
-        let circuit = circuit_of(alloc, &net, chips.as_slice())?;
-        let tables = Tables::new(alloc, &net, chips.as_slice())?;
+        let (circuit, tables) = converted(alloc, &net, chips.as_slice())?;
         let ranks = check(alloc, &circuit, &tables)?;
         let by_rank = variables_by_rank(alloc, ranks.order.items(), tables.registers.items())?;
         let structure = structure_of(alloc, &circuit, tables.registers.items())?;
@@ -113,3 +109,8 @@ impl Board {
         })
     }
 }
+
+/// A wiring and chips whose equations are accepted are refused for want of memory alone.
+pub fn accepted_is_not_refused()
+    ensures { (net : Wiring) (chips : List CellsOf) (e : Refusal) → IsAccepted (circuit net chips) → RefusesBoard net chips e → e ≡ Memory }
+{}

@@ -1,4 +1,4 @@
-ghost use Rattle.std.specs.Prelude.{◌≡◌, ◌<◌, ◌≤◌, ◌^◌, length, slice_get, slice_index_or, IfOk};
+ghost use Rattle.std.specs.Prelude.{◌≡◌, ◌<◌, ◌^◌, length, slice_get, slice_index_or, IfOk};
 ghost use Rattle.mig_base.specs.declared.nets.Node.TheVariants.{Gnd};
 ghost use Rattle.board.specs.Built.{IsTables};
 ghost use Rattle.board.specs.NodeNames.{name_by, register_node};
@@ -8,8 +8,8 @@ use crate::Unit;
 use crate::names::net_names;
 use crate::pin_nets::pin_nets;
 use crate::unit_lists::{cell_places, named_units, register_pins, register_places, registered};
-use equations::{NetNumbers, units_of};
-use mig_base::{ChipCells, Items, Net, NoMemory, Node, PinName, Read};
+use equations::Parts;
+use mig_base::{Items, NoMemory, Node, PinName, Read};
 use std::alloc::Global;
 
 /// What is looked up of a board by number: the net of each pin, 256 pins a chip; the names of the nets, and the pins of the registers by name;
@@ -49,39 +49,33 @@ fn register_at(pins: &[PinName], number: u32) -> Node
 }
 
 /// The units of a board, by name and number.
-fn all_units(
-    alloc: Global,
-    net: &Net,
-    numbers: &NetNumbers,
-    chips: &[ChipCells],
-) -> Result<Vec<Unit>, NoMemory>
-    requires same { numbers.now ≡ net.now }
-    requires chips { length net.now.chips ≤ 64 }
-    requires cells { length chips.now ≡ length net.now.chips }
-    ensures units { IfOk result (λ units. units.items ≡ units_on net.now chips.now) }
+fn all_units(alloc: Global, parts: &Parts) -> Result<Vec<Unit>, NoMemory>
+    ensures units { IfOk result (λ units. units.items ≡ units_on parts.now.net parts.now.chips) }
     ensures few { IfOk result (λ units. length units.items < 2 ^ 32) }
 {
-    let units = units_of(alloc, chips)?;
+    let units = parts.units();
+    let chips = parts.chips();
     let places = cell_places(alloc, chips)?;
-    if units.len() > u32::MAX as usize {
-        return Err(NoMemory);
-    }
-    let named = named_units(alloc, net, numbers, units.as_slice(), places.as_slice())?;
+    let named = named_units(
+        alloc,
+        parts.net(),
+        parts.numbers(),
+        units,
+        places.as_slice(),
+    )?;
     Ok(named)
 }
 
 impl Tables {
-    /// The tables of a board.
-    pub(crate) fn new(alloc: Global, net: &Net, chips: &[ChipCells]) -> Result<Tables, NoMemory>
-        requires nets { length net.now.nets ≤ 1024 }
-        requires chips { length net.now.chips ≤ 64 }
-        requires cells { length chips.now ≡ length net.now.chips }
-        ensures { IfOk result (IsTables net.now chips.now) }
+    /// The tables of a board of these parts.
+    pub(crate) fn new(alloc: Global, parts: &Parts) -> Result<Tables, NoMemory>
+        ensures { IfOk result (IsTables parts.now.net parts.now.chips) }
     {
-        let numbers = NetNumbers::new(alloc, net)?;
-        let units = all_units(alloc, net, &numbers, chips)?;
-        let pins = pin_nets(alloc, &numbers, chips.len())?;
-        let net_names = net_names(alloc, net, &numbers)?;
+        let numbers = parts.numbers();
+        let chips = parts.chips();
+        let units = all_units(alloc, parts)?;
+        let pins = pin_nets(alloc, numbers, chips.len())?;
+        let net_names = net_names(alloc, parts.net(), numbers)?;
         let register_pins = register_pins(alloc, units.as_slice())?;
         let registers = registered(alloc, units.as_slice())?;
         let places = register_places(alloc, units.as_slice())?;

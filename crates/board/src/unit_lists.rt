@@ -7,11 +7,8 @@ ghost use Rattle.board.specs.UnitLists.{cell_places as places_of_cells, unit_on,
 use crate::Unit;
 use crate::names::pin_name;
 use equations::{BoardUnit, NetNumbers, is_unit};
-use mig_base::{ChipCells, Items, Net, NoMemory, PinName};
+use mig_base::{CLOCK_PIN, ChipCells, Items, Net, NoMemory, PinName};
 use std::alloc::Global;
-
-/// The pin that clocks every registered cell of a chip.
-const CLOCK_PIN: u8 = 1;
 
 /// Adds the places of those cells of a chip that are units.
 fn push_places(places: &mut Vec<u32>, chip: &ChipCells) -> Result<(), NoMemory>

@@ -6,9 +6,10 @@ use Rattle.std.proofs.lemmas.List.Filters.{length-filter_both}
 use Rattle.mig_base.specs.declared.nets.Net.{Net}
 use Rattle.mig_base.specs.declared.nets.ChipLine.{ChipLine}
 use Rattle.mig_base.specs.declared.cells.ChipCells.{ChipCells}
-use Rattle.mig_base.specs.Boards.{ChipUnit, is_port, places_from}
+use Rattle.mig_base.specs.Boards.{is_port, places_from}
 use Rattle.new_board.specs.declared.types.FittedChip.{FittedChip}
 use Rattle.new_board.specs.NewFiles.{kept_numbers, stands_on}
+use Rattle.new_board.specs.NewChip.{OldBoard}
 use Rattle.new_board.specs.OneForOne.{same_chips_from}
 
 places-split : {T : Type 0} (p : T → Bool) (i : ℕ) (xs : List T) → length (places_from p i xs) + length (places_from (λ x. not (p x)) i xs) ≡ length xs
@@ -29,7 +30,7 @@ kept-few net chips =
     let whole : length (kept_numbers net chips) ≡ length (places_from is_port 2 net.nets) + length (filter stands inner) = length-append (places_from is_port 2 net.nets) (filter stands inner) in
     omega arith
 
-pub chips-few : (units : List ChipUnit) (j : ℕ) (lines : List ChipLine) (chips : List ChipCells) → length (same_chips_from units j lines chips) ≤ length lines
-chips-few units j [] chips = omega arith
-chips-few units j (line ∷ lines) [] = omega arith
-chips-few units j (line ∷ lines) (cells ∷ chips) = let more = chips-few units (j + 1) lines chips in omega arith
+pub chips-few : (b : OldBoard) (j : ℕ) (lines : List ChipLine) (chips : List ChipCells) → length (same_chips_from b j lines chips) ≤ length lines
+chips-few b j [] chips = omega arith
+chips-few b j (line ∷ lines) [] = omega arith
+chips-few b j (line ∷ lines) (cells ∷ chips) = let more = chips-few b (j + 1) lines chips in omega arith

@@ -3,11 +3,9 @@
 
 mod new_cells;
 mod new_wires;
+mod old_rows;
 mod one_for_one;
 mod pin_columns;
 mod rebuilding;
 
 pub use rebuilding::rebuild;
-
-#[cfg(test)]
-mod tests;

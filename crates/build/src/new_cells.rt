@@ -1,28 +1,26 @@
-ghost use Rattle.std.specs.Prelude.{◌≡◌, map, IfOk, option_copied, option_and_then, slice_get, Some, if◌then◌else◌};
-ghost use Rattle.mig_base.specs.Structure.{variable_gate};
+ghost use Rattle.std.specs.Prelude.{◌≡◌, map, IfOk, Some, slice_get, if◌then◌else◌};
 ghost use Rattle.mig_base.specs.DeviceTables.{cell_pins as pins_of_cells, is_22 as is_22v10, enable_pin as pin_enabling};
-ghost use Rattle.new_board.specs.NewChip.{unit_on, first_register};
-ghost use Rattle.new_board.specs.NewFiles.{new_enable, new_row, new_comb, new_reg, new_cell, cell_driving, new_cells as cells_on, reset_gate, preset_gate};
+ghost use Rattle.new_board.specs.NewChip.{first_registered};
+ghost use Rattle.new_board.specs.NewFiles.{new_enable, new_row, new_comb, new_reg, new_cell, cell_of as cell_of_unit, pin_low_of, new_cells as cells_on, reset_gate, preset_gate};
 
-use crate::pin_columns::{Columns, has_no_literal};
-use array_rows::{enable_pin, idle};
-use chip_pins::cell_pins;
-use equations::is_22;
+use crate::pin_columns::Columns;
+use chip_pins::unit_register;
+use devices::{cell_pins, idle};
 use mig_base::{
-    Cell, ChipCells, Driver, Enable, Form, Gate, Gives, Items, Literal, NoMemory, Register, Row,
+    Cell, ChipCells, Circuit, Enable, Form, Gate, Items, NoMemory, Row, enable_pin, is_22,
 };
+use new_board::PlacedUnit;
 use std::alloc::Global;
 
 impl<'a> Columns<'a> {
     /// An enable row of the new chip.
     fn enable(&self, alloc: Global, gate: &Gate) -> Result<Enable, NoMemory>
-        ensures { IfOk result (λ enable. enable ≡ new_enable self.now.nets.now.old.now self.now.nets.now.chip.now (variable_gate self.now.nets.now.old.now.circuit gate.now)) }
+        ensures { IfOk result (λ enable. enable ≡ new_enable self.now.nets.now.old.now self.now.nets.now.chip.now gate.now) }
     {
         match gate {
             Gate::Never => Ok(Enable::Never),
             Gate::Product(lits) => {
-                let old = self.nets.old;
-                if has_no_literal(old.circuit, lits.items()) {
+                if lits.items().is_empty() {
                     return Ok(Enable::Always);
                 }
                 let product = self.product(alloc, lits.items())?;
@@ -33,7 +31,7 @@ impl<'a> Columns<'a> {
 
     /// A reset or preset row of the new chip.
     fn row(&self, alloc: Global, gate: &Gate) -> Result<Row, NoMemory>
-        ensures { IfOk result (λ row. row ≡ new_row self.now.nets.now.old.now self.now.nets.now.chip.now (variable_gate self.now.nets.now.old.now.circuit gate.now)) }
+        ensures { IfOk result (λ row. row ≡ new_row self.now.nets.now.old.now self.now.nets.now.chip.now gate.now) }
     {
         match gate {
             Gate::Never => Ok(Row::Never),
@@ -45,25 +43,18 @@ impl<'a> Columns<'a> {
     }
 
     /// A combinational cell. It is idle where it is never enabled.
-    fn combinational(
-        &self,
-        alloc: Global,
-        pin: u8,
-        low: bool,
-        enable: &Gate,
-        terms: &[Items<Literal>],
-    ) -> Result<Cell, NoMemory>
-        ensures { IfOk result (λ cell. cell ≡ new_comb self.now.nets.now.old.now self.now.nets.now.chip.now pin low (variable_gate self.now.nets.now.old.now.circuit enable.now) terms.now) }
+    fn combinational(&self, alloc: Global, pin: u8, unit: &PlacedUnit) -> Result<Cell, NoMemory>
+        ensures { IfOk result (λ cell. cell ≡ new_comb self.now.nets.now.old.now self.now.nets.now.chip.now pin unit.now unit.now.enable) }
     {
-        if matches!(enable, Gate::Never) {
+        if matches!(unit.enable, Gate::Never) {
             return Ok(idle(alloc, pin));
         }
-        let enable = self.enable(alloc, enable)?;
-        let terms = self.terms(alloc, terms)?;
+        let enable = self.enable(alloc, &unit.enable)?;
+        let terms = self.terms(alloc, unit.terms.items())?;
         Ok(Cell {
             pin,
             form: Form::Comb,
-            low,
+            low: unit.low,
             pin_low: false,
             enable,
             terms,
@@ -72,8 +63,7 @@ impl<'a> Columns<'a> {
 
     /// The enable of a registered cell: on a 22V10 by its enable row, on a V8 by the enable pin.
     fn register_enable(&self, alloc: Global, enable: &Gate) -> Result<Enable, NoMemory>
-        ensures { IfOk result (λ made. made ≡ (if is_22v10 self.now.nets.now.chip.now.kind then new_enable self.now.nets.now.old.now self.now.nets.now.chip.now (variable_gate self.now.nets.now.old.now.circuit enable.now)
-            else Enable.LowPin (pin_enabling self.now.nets.now.chip.now.kind))) }
+        ensures { IfOk result (λ made. made ≡ (if is_22v10 self.now.nets.now.chip.now.kind then new_enable self.now.nets.now.old.now self.now.nets.now.chip.now enable.now else Enable.LowPin (pin_enabling self.now.nets.now.chip.now.kind))) }
     {
         let chip = self.nets.chip;
         let kind = chip.kind;
@@ -85,67 +75,39 @@ impl<'a> Columns<'a> {
     }
 
     /// A registered cell.
-    fn registered(
-        &self,
-        alloc: Global,
-        pin: u8,
-        pin_low: bool,
-        enable: &Gate,
-        register: Option<&Register>,
-    ) -> Result<Cell, NoMemory>
-        ensures { IfOk result (λ cell. cell ≡ new_reg self.now.nets.now.old.now self.now.nets.now.chip.now pin pin_low (variable_gate self.now.nets.now.old.now.circuit enable.now) (option_copied register.entry)) }
+    fn registered(&self, alloc: Global, pin: u8, unit: &PlacedUnit) -> Result<Cell, NoMemory>
+        ensures { IfOk result (λ cell. cell ≡ new_reg self.now.nets.now.old.now self.now.nets.now.chip.now pin unit.now) }
     {
-        match register {
-            Some(register) => {
-                let enable = self.register_enable(alloc, enable)?;
-                let terms = self.terms(alloc, register.terms.items())?;
-                Ok(Cell {
-                    pin,
-                    form: Form::Reg,
-                    low: register.low,
-                    pin_low,
-                    enable,
-                    terms,
-                })
-            }
-            None => Ok(idle(alloc, pin)),
-        }
+        let old = self.nets.old;
+        let pin_low = pin_is_low(old.circuit, unit.unit);
+        let enable = self.register_enable(alloc, &unit.enable)?;
+        let terms = self.terms(alloc, unit.terms.items())?;
+        Ok(Cell {
+            pin,
+            form: Form::Reg,
+            low: unit.low,
+            pin_low,
+            enable,
+            terms,
+        })
     }
 
     /// The cell of a unit.
-    fn cell_of(&self, alloc: Global, pin: u8, unit: &Driver) -> Result<Cell, NoMemory>
-        ensures { IfOk result (λ cell. cell ≡ cell_driving self.now.nets.now.old.now self.now.nets.now.chip.now pin (Some unit.now)) }
-    {
-        match &unit.gives {
-            Gives::Sum(terms) => self.combinational(
-                alloc,
-                pin,
-                unit.low,
-                &unit.enable,
-                terms.items(),
-            ),
-            Gives::Visible(number) => {
-                let old = self.nets.old;
-                let register = old.circuit.registers.items().get(*number as usize);
-                self.registered(alloc, pin, unit.low, &unit.enable, register)
-            }
-        }
-    }
-
-    /// The unit on a pin.
-    fn unit_on(&self, pin: u8) -> Option<&'a Driver>
-        ensures { option_copied result ≡ option_and_then (slice_get self.now.nets.now.old.now.circuit.units) (unit_on self.now.nets.now.chip.now.units pin) }
+    fn cell_of(&self, alloc: Global, pin: u8, unit: &PlacedUnit) -> Result<Cell, NoMemory>
+        ensures { IfOk result (λ cell. cell ≡ cell_of_unit self.now.nets.now.old.now self.now.nets.now.chip.now pin (Some unit.now)) }
     {
         let old = self.nets.old;
-        let unit = self.nets.chip.unit_on(pin)?;
-        old.circuit.units.items().get(unit as usize)
+        match unit_register(old.circuit, unit.unit) {
+            Some(_) => self.registered(alloc, pin, unit),
+            None => self.combinational(alloc, pin, unit),
+        }
     }
 
     /// The cell of a pin: that of its unit, or idle.
     fn cell(&self, alloc: Global, pin: u8) -> Result<Cell, NoMemory>
         ensures { IfOk result (λ cell. cell ≡ new_cell self.now.nets.now.old.now self.now.nets.now.chip.now pin) }
     {
-        match self.unit_on(pin) {
+        match self.nets.chip.unit_on(pin) {
             Some(unit) => self.cell_of(alloc, pin, unit),
             None => Ok(idle(alloc, pin)),
         }
@@ -163,24 +125,24 @@ impl<'a> Columns<'a> {
         Ok(Items::new(cells))
     }
 
-    /// The reset row, by the chip's first register.
+    /// The reset row, by the chip's first registered unit.
     fn reset(&self, alloc: Global) -> Result<Row, NoMemory>
-        ensures { IfOk result (λ row. row ≡ new_row self.now.nets.now.old.now self.now.nets.now.chip.now (variable_gate self.now.nets.now.old.now.circuit (reset_gate (first_register self.now.nets.now.old.now.circuit self.now.nets.now.chip.now)))) }
+        ensures { IfOk result (λ row. row ≡ new_row self.now.nets.now.old.now self.now.nets.now.chip.now (reset_gate (first_registered self.now.nets.now.old.now.circuit self.now.nets.now.chip.now))) }
     {
         let old = self.nets.old;
-        match self.nets.chip.first_register(old.circuit) {
-            Some(register) => self.row(alloc, &register.reset),
+        match self.nets.chip.first_registered(old.circuit) {
+            Some(unit) => self.row(alloc, &unit.reset),
             None => Ok(Row::Never),
         }
     }
 
-    /// The preset row, by the chip's first register.
+    /// The preset row, by the chip's first registered unit.
     fn preset(&self, alloc: Global) -> Result<Row, NoMemory>
-        ensures { IfOk result (λ row. row ≡ new_row self.now.nets.now.old.now self.now.nets.now.chip.now (variable_gate self.now.nets.now.old.now.circuit (preset_gate (first_register self.now.nets.now.old.now.circuit self.now.nets.now.chip.now)))) }
+        ensures { IfOk result (λ row. row ≡ new_row self.now.nets.now.old.now self.now.nets.now.chip.now (preset_gate (first_registered self.now.nets.now.old.now.circuit self.now.nets.now.chip.now))) }
     {
         let old = self.nets.old;
-        match self.nets.chip.first_register(old.circuit) {
-            Some(register) => self.row(alloc, &register.preset),
+        match self.nets.chip.first_registered(old.circuit) {
+            Some(unit) => self.row(alloc, &unit.preset),
             None => Ok(Row::Never),
         }
     }
@@ -200,5 +162,15 @@ impl<'a> Columns<'a> {
             reset,
             preset,
         })
+    }
+}
+
+/// Whether the pin of a registered unit shows NOT Q.
+fn pin_is_low(circuit: &Circuit, unit: u32) -> bool
+    ensures { result ≡ pin_low_of (slice_get circuit.now.units unit) }
+{
+    match circuit.units.items().get(unit as usize) {
+        Some(driver) => driver.low,
+        None => false,
     }
 }

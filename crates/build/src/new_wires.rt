@@ -6,7 +6,8 @@ ghost use Rattle.new_board.specs.InputPins.{input_pins as pins_for_inputs};
 ghost use Rattle.new_board.specs.NewFiles.{wire_at as wire_on, new_wires as wires_on, fitted as fit_on, stands_on as stands, kept_numbers as numbers_kept, number_in as number_among, new_number as number_new, new_chip_line as chip_line_new, new_pins_from, new_net as net_new};
 
 use crate::pin_columns::{Columns, pin_net};
-use chip_pins::{ChipNets, Old, PlannedChip, Taken, input_pins, ordinary_pins};
+use chip_pins::{ChipNets, Old, PlannedChip, Taken, input_pins};
+use devices::ordinary_pins;
 use mig_base::{ChipLine, Items, Net, NetLine, NoMemory, PinLine, Port};
 use new_board::{FittedChip, PinNet};
 use std::alloc::Global;
@@ -42,7 +43,7 @@ fn new_wires(alloc: Global, nets: &ChipNets, taken: &[Taken]) -> Result<Items<Pi
 pub(crate) fn fitted(alloc: Global, old: &Old, chip: &PlannedChip) -> Result<FittedChip, NoMemory>
     ensures { IfOk result (λ made. made ≡ fit_on old.now chip.now) }
 {
-    let nets = ChipNets::new(alloc, old, chip)?;
+    let nets = ChipNets::new(old, chip);
     let taken = input_pins(alloc, &nets)?;
     let wires = new_wires(alloc, &nets, taken.as_slice())?;
     let columns = Columns::new(alloc, &nets, taken.as_slice())?;

@@ -3,11 +3,13 @@ ghost use Rattle.std.specs.List.{All};
 ghost use Rattle.mig_base.specs.Boards.{ChipUnit};
 ghost use Rattle.new_board.specs.OneForOne.{gal_kind as kind_of_gal, gal_mode as mode_of_gal, placed_from, same_chips_from, place_line as line_placing, plan_chip as chip_planned};
 
-use chip_pins::PlannedChip;
+use crate::old_rows::old_rows;
+use chip_pins::{Old, PlannedChip};
 use equations::BoardUnit;
 use mig_base::{
     ChipCells, ChipLine, Items, Kind, Mode, Net, NoMemory, PinName, PlanChip, PlanLine,
 };
+use new_board::PlacedUnit;
 use std::alloc::Global;
 
 /// The kind of the new chip: a PAL becomes the V8 of its size, a GAL stays what it is.
@@ -33,15 +35,16 @@ fn gal_mode(kind: Kind, mode: Mode) -> Mode
     }
 }
 
-/// The units of a chip, by their pins and their numbers.
-fn placed(alloc: Global, units: &[BoardUnit], chip: u32) -> Result<Vec<(u8, u32)>, NoMemory>
-    requires { length units.now < 2 ^ 32 }
-    ensures { IfOk result (λ placed. placed.items ≡ placed_from chip 0 units.now) }
+/// The units of a chip on their pins, with their old rows.
+fn placed(alloc: Global, old: &Old, chip: u32) -> Result<Vec<PlacedUnit>, NoMemory>
+    requires { length old.now.units < 2 ^ 32 }
+    ensures { IfOk result (λ placed. placed.items ≡ placed_from old.now.circuit chip 0 old.now.units) }
 {
     let mut placed = Vec::new(alloc);
-    for (number, unit) in units.iter().enumerate() {
+    for (number, unit) in old.units.iter().enumerate() {
         if unit.chip == chip {
-            placed.push((unit.cell.pin, number as u32))?;
+            let pin = unit.cell.pin;
+            placed.push(old_rows(alloc, old.circuit, old.variables, pin, number as u32)?)?;
         }
     }
     Ok(placed)
@@ -50,15 +53,15 @@ fn placed(alloc: Global, units: &[BoardUnit], chip: u32) -> Result<Vec<(u8, u32)
 /// The new chip for an old one.
 fn same_chip(
     alloc: Global,
-    units: &[BoardUnit],
+    old: &Old,
     chip: u32,
     line: &ChipLine,
     mode: Mode,
 ) -> Result<PlannedChip, NoMemory>
-    requires { length units.now < 2 ^ 32 }
-    ensures { IfOk result (λ made. made ≡ record { name = line.now.name; kind = kind_of_gal line.now.kind; mode = mode_of_gal line.now.kind mode; units = placed_from chip 0 units.now }) }
+    requires { length old.now.units < 2 ^ 32 }
+    ensures { IfOk result (λ made. made ≡ record { name = line.now.name; kind = kind_of_gal line.now.kind; mode = mode_of_gal line.now.kind mode; units = placed_from old.now.circuit chip 0 old.now.units }) }
 {
-    let units = placed(alloc, units, chip)?;
+    let units = placed(alloc, old, chip)?;
     Ok(PlannedChip {
         name: line.name,
         kind: gal_kind(line.kind),
@@ -70,18 +73,17 @@ fn same_chip(
 /// The new chips, one for each old one.
 pub(crate) fn same_chips(
     alloc: Global,
-    units: &[BoardUnit],
-    lines: &[ChipLine],
+    old: &Old,
     chips: &[ChipCells],
 ) -> Result<Vec<PlannedChip>, NoMemory>
-    requires units { length units.now < 2 ^ 32 }
-    requires lines { length lines.now ≤ 64 }
-    requires chips { length chips.now ≡ length lines.now }
-    ensures { IfOk result (λ made. made.items ≡ same_chips_from units.now 0 lines.now chips.now) }
+    requires units { length old.now.units < 2 ^ 32 }
+    requires chips { length chips.now ≡ length old.now.net.chips }
+    ensures { IfOk result (λ made. made.items ≡ same_chips_from old.now 0 old.now.net.chips chips.now) }
 {
     let mut made = Vec::new(alloc);
-    for (number, line) in lines.iter().enumerate() {
-        made.push(same_chip(alloc, units, number as u32, line, chips[number].mode)?)?;
+    for (number, line) in old.net.chips.items().iter().enumerate() {
+        let mode = chips[number].mode;
+        made.push(same_chip(alloc, old, number as u32, line, mode)?)?;
     }
     Ok(made)
 }

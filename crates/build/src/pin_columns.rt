@@ -1,20 +1,16 @@
 ghost use Rattle.std.specs.Prelude.{◌≡◌, map, filter, IfOk};
 ghost use Rattle.std.specs.List.{list_any, filter_map};
 ghost use Rattle.mig_base.specs.DeviceTables.{pair_pins as pins_of_pairs};
-ghost use Rattle.mig_base.specs.Structure.{variable_product as product_over};
 ghost use Rattle.mig_base.specs.WellFormed.{same_lit as lit_same, same_source as source_same};
 ghost use Rattle.new_board.specs.NewChip.{is_registered_unit};
 ghost use Rattle.new_board.specs.InputPins.{input_pins as pins_for_inputs, pin_net as net_on};
 ghost use Rattle.new_board.specs.NewFiles.{new_columns, new_lit, new_product, new_terms};
-ghost use Rattle.chip_pins.specs.Needed.{listed_literals, is_empty};
 ghost use Rattle.build.specs.PinColumns.{pin_columns as columns_on, lit_among};
 
-use array_rows::{columns, pair_pins};
-use chip_pins::{
-    ChipNets, Taken, even_reads_q, input_at, is_variable, read_by, same_bool, same_read,
-    unit_register, variable_literal,
-};
+use chip_pins::{ChipNets, Taken, input_at, read_by, same_bool, same_read, unit_register};
+use devices::{columns, even_reads_q, pair_pins};
 use mig_base::{Circuit, Items, Lit, Literal, NoMemory, Product, Source};
+use new_board::PlacedUnit;
 use std::alloc::Global;
 
 /// The net that a pin of a new chip stands on, where these are its input pins.
@@ -67,14 +63,14 @@ fn columns_by_pin(
 fn registered_pins(
     alloc: Global,
     circuit: &Circuit,
-    units: &[(u8, u32)],
+    units: &[PlacedUnit],
 ) -> Result<Vec<u8>, NoMemory>
-    ensures { IfOk result (λ pins. pins.items ≡ map (λ x. x.0) (filter (is_registered_unit circuit.now) units.now)) }
+    ensures { IfOk result (λ pins. pins.items ≡ map (λ x. x.pin) (filter (is_registered_unit circuit.now) units.now)) }
 {
     let mut pins = Vec::new(alloc);
-    for (pin, unit) in units {
-        if unit_register(circuit, *unit).is_some() {
-            pins.push(*pin)?;
+    for unit in units {
+        if unit_register(circuit, unit.unit).is_some() {
+            pins.push(unit.pin)?;
         }
     }
     Ok(pins)
@@ -116,17 +112,12 @@ impl<'a> Columns<'a> {
 
     /// The literals of the new chip for those of a product.
     fn new_lits(&self, alloc: Global, lits: &[Literal]) -> Result<Vec<Lit>, NoMemory>
-        ensures { IfOk result (λ found. found.items ≡ filter_map (new_lit self.now.nets.now.old.now self.now.nets.now.chip.now) (listed_literals self.now.nets.now.old.now.circuit lits.now)) }
+        ensures { IfOk result (λ found. found.items ≡ filter_map (new_lit self.now.nets.now.old.now self.now.nets.now.chip.now) lits.now) }
     {
-        let old = self.nets.old;
-        let circuit = old.circuit;
         let mut found = Vec::new(alloc);
         for lit in lits {
-            let lit = variable_literal(circuit, *lit);
-            if is_variable(circuit, lit.source) {
-                if let Some(lit) = self.new_lit(lit) {
-                    found.push(lit)?;
-                }
+            if let Some(lit) = self.new_lit(*lit) {
+                found.push(lit)?;
             }
         }
         Ok(found)
@@ -134,7 +125,7 @@ impl<'a> Columns<'a> {
 
     /// A product of the new chip: each literal once, by rising column.
     pub(crate) fn product(&self, alloc: Global, lits: &[Literal]) -> Result<Product, NoMemory>
-        ensures { IfOk result (λ product. product ≡ new_product self.now.nets.now.old.now self.now.nets.now.chip.now (product_over self.now.nets.now.old.now.circuit lits.now)) }
+        ensures { IfOk result (λ product. product ≡ new_product self.now.nets.now.old.now self.now.nets.now.chip.now lits.now) }
     {
         let found = self.new_lits(alloc, lits)?;
         let kept = those_among(alloc, self.lits.as_slice(), found.as_slice())?;
@@ -210,16 +201,4 @@ fn those_among(alloc: Global, columns: &[Lit], lits: &[Lit]) -> Result<Vec<Lit>,
         }
     }
     Ok(kept)
-}
-
-/// Whether a product over variables has no literal.
-pub(crate) fn has_no_literal(circuit: &Circuit, lits: &[Literal]) -> bool
-    ensures { result ≡ is_empty (listed_literals circuit.now lits.now) }
-{
-    for lit in lits {
-        if is_variable(circuit, variable_literal(circuit, *lit).source) {
-            return false;
-        }
-    }
-    true
 }

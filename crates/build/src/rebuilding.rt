@@ -5,11 +5,12 @@ ghost use Rattle.new_board.specs.OneForOne.{old_board, same_chips as chips_same,
 
 use crate::new_wires::{fitted, new_net};
 use crate::one_for_one::{place_lines, plan_chips, same_chips};
-use chip_pins::{Old, PlannedChip, all_variables};
+use chip_pins::{Old, PlannedChip};
 use equations::{NetNumbers, units_of};
 use mig_base::{ChipCells, Circuit, Items, Net, NoMemory, Plan};
 use new_board::{FittedChip, Rebuilt};
 use std::alloc::Global;
+use structure::all_variables;
 
 /// These new chips, fitted.
 fn fit(alloc: Global, old: &Old, chips: &[PlannedChip]) -> Result<Vec<FittedChip>, NoMemory>
@@ -51,7 +52,7 @@ pub fn rebuild(
         circuit,
         variables: variables.as_slice(),
     };
-    let planned = same_chips(alloc, units.as_slice(), net.chips.items(), chips)?;
+    let planned = same_chips(alloc, &old, chips)?;
     let plan = Plan {
         chips: plan_chips(alloc, planned.as_slice())?,
         lines: place_lines(alloc, net, units.as_slice())?,

@@ -1,5 +1,3 @@
-pub mod CodeLists
 pub mod CodeNeeded
-pub mod CodeKinds
 pub mod CodeSearch
 pub mod CodeInputs

@@ -1,16 +1,13 @@
-ghost use Rattle.std.specs.Prelude.{◌≡◌, ◌==◌, ◌&&◌, IfOk, option_and_then};
+ghost use Rattle.std.specs.Prelude.{◌≡◌, ◌==◌, ◌&&◌, option_and_then};
 ghost use Rattle.std.specs.List.{list_any};
 ghost use Rattle.mig_base.specs.DeviceTables.{pair_pins as pins_of_pairs, enable_pin as enable_pin_of, clock_pin, is_v8 as v8};
-ghost use Rattle.mig_base.specs.Structure.{variable_gate};
-ghost use Rattle.new_board.specs.NewChip.{unit_net, unit_on, unit_enable, enable_net as net_enabling, clock_net, first_registered, fixed_net, register_on, read_by as literal_by, is_literal_of as literal_is_of, is_read_at, is_read, or_option, when};
+ghost use Rattle.new_board.specs.NewChip.{unit_net, unit_on, enable_net as net_enabling, clock_net, first_registered, fixed_net, register_on, read_by as literal_by, is_literal_of as literal_is_of, is_read_at, is_read, or_option, when};
 
-use crate::aliases::{same_read, variable_product};
 use crate::old_board::{Old, net_level};
 use crate::planned::PlannedChip;
-use crate::tables::{CLOCK_PIN, is_v8};
-use array_rows::{enable_pin, pair_pins};
-use mig_base::{Circuit, Gate, Literal, NoMemory, Read};
-use std::alloc::Global;
+use crate::variables::same_read;
+use devices::{is_v8, pair_pins};
+use mig_base::{CLOCK_PIN, Circuit, Gate, Literal, Read, enable_pin};
 
 const GROUND: u32 = 0;
 
@@ -18,34 +15,16 @@ const POWER: u32 = 1;
 
 /// The net of the enable pin of registered units on a V8, by the enable of one of them: GND where it is Always, VCC where
 /// Never, else the net of whose level its one literal is the complement.
-fn enable_net(alloc: Global, old: &Old, unit: u32) -> Result<Option<u32>, NoMemory>
-    ensures { IfOk result (λ net. net ≡ net_enabling old.now (unit_enable old.now.circuit unit)) }
-{
-    match old.circuit.units.items().get(unit as usize) {
-        Some(driver) => enabling_net(alloc, old, &driver.enable),
-        None => Ok(Some(POWER)),
-    }
-}
-
-fn enabling_net(alloc: Global, old: &Old, enable: &Gate) -> Result<Option<u32>, NoMemory>
-    ensures { IfOk result (λ net. net ≡ net_enabling old.now (variable_gate old.now.circuit enable.now)) }
+fn enable_net(old: &Old, enable: &Gate) -> Option<u32>
+    ensures { result ≡ net_enabling old.now enable.now }
 {
     match enable {
-        Gate::Never => Ok(Some(POWER)),
-        Gate::Product(lits) => {
-            let product = variable_product(alloc, old.circuit, old.variables, lits.items())?;
-            Ok(net_of_product(old, product.as_slice()))
-        }
-    }
-}
-
-fn net_of_product(old: &Old, product: &[Literal]) -> Option<u32>
-    ensures { result ≡ net_enabling old.now (Gate.Product product.now) }
-{
-    match product {
-        [] => Some(GROUND),
-        [lit] => old.net_of_complement(*lit),
-        _ => None,
+        Gate::Never => Some(POWER),
+        Gate::Product(lits) => match lits.items() {
+            [] => Some(GROUND),
+            [lit] => old.net_of_complement(*lit),
+            _ => None,
+        },
     }
 }
 
@@ -57,42 +36,39 @@ pub struct ChipNets<'a> {
     pub clock: Option<u32>,
     enable: Option<u32>,
     ghost clock_is: { clock ≡ clock_net old.now.circuit chip.now },
-    ghost enable_is: { enable ≡ option_and_then (λ u. net_enabling old.now (unit_enable old.now.circuit u)) (first_registered old.now.circuit chip.now) },
+    ghost enable_is: { enable ≡ option_and_then (λ x. net_enabling old.now x.enable) (first_registered old.now.circuit chip.now) },
 }
 
 impl<'a> ChipNets<'a> {
-    pub fn new(
-        alloc: Global,
-        old: &'a Old<'a>,
-        chip: &'a PlannedChip,
-    ) -> Result<ChipNets<'a>, NoMemory>
-        ensures { IfOk result (λ nets. (nets.old.now ≡ old.now) × (nets.chip.now ≡ chip.now)) }
+    pub fn new(old: &'a Old<'a>, chip: &'a PlannedChip) -> ChipNets<'a>
+        ensures old { result.old.now ≡ old.now }
+        ensures chip { result.chip.now ≡ chip.now }
     {
         let clock = chip.clock_net(old.circuit);
         let enable = match chip.first_registered(old.circuit) {
-            Some(unit) => enable_net(alloc, old, unit)?,
+            Some(unit) => enable_net(old, &unit.enable),
             None => None,
         };
-        Ok(ChipNets {
+        ChipNets {
             old,
             chip,
             clock,
             enable,
-        })
+        }
     }
 
     /// The net of the unit on a pin.
     fn unit_net_on(&self, pin: u8) -> Option<u32>
-        ensures { result ≡ option_and_then (unit_net self.now.old.now) (unit_on self.now.chip.now.units pin) }
+        ensures { result ≡ option_and_then (λ x. unit_net self.now.old.now x.unit) (unit_on self.now.chip.now.units pin) }
     {
-        self.old.unit_net(self.chip.unit_on(pin)?)
+        self.old.unit_net(self.chip.unit_on(pin)?.unit)
     }
 
     /// The net of a pin by which the chip's registered units are clocked or enabled.
     fn control_net(&self, pin: u8) -> Option<u32>
         ensures { result ≡ or_option (when (pin == clock_pin self.now.chip.now.kind) (clock_net self.now.old.now.circuit self.now.chip.now))
             (when (v8 self.now.chip.now.kind && (pin == enable_pin_of self.now.chip.now.kind))
-            (option_and_then (λ u. net_enabling self.now.old.now (unit_enable self.now.old.now.circuit u)) (first_registered self.now.old.now.circuit self.now.chip.now))) }
+            (option_and_then (λ x. net_enabling self.now.old.now x.enable) (first_registered self.now.old.now.circuit self.now.chip.now))) }
     {
         let chip = self.chip;
         if pin == CLOCK_PIN && self.clock.is_some() {

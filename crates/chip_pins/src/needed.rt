@@ -1,43 +1,31 @@
-ghost use Rattle.std.specs.Prelude.{◌≡◌, [], ◌∷◌, filter, IfOk, OnOk, slice_get, Some, option_copied};
+ghost use Rattle.std.specs.Prelude.{◌≡◌, [], ◌∷◌, ◌++◌, map, filter, if◌then◌else◌, IfOk, OnOk, option_copied};
 ghost use Rattle.std.specs.List.{flat_map};
-ghost use Rattle.mig_base.specs.Structure.{variable_gate, variable_product};
-ghost use Rattle.new_board.specs.NewChip.{needed_variables as variables_needed, gate_products, terms_over, driver_products, products_given, comb_products, register_terms, reset_products, chip_products};
-ghost use Rattle.chip_pins.specs.Needed.{are_read, AddsProducts, AddsSources, sources};
+ghost use Rattle.new_board.specs.NewChip.{needed_variables as variables_needed, gate_products, comb_products, products_by, placed_register, controls_of, chip_products};
+ghost use Rattle.chip_pins.specs.Needed.{are_read, AddsProducts, AddsSources};
 
-use crate::aliases::{is_variable, same_read, variable_literal};
 use crate::old_board::Old;
-use crate::planned::PlannedChip;
-use equations::is_22;
-use mig_base::{Circuit, Driver, Gate, Gives, Items, Literal, NoMemory, Read, Register};
+use crate::planned::{PlannedChip, unit_register};
+use crate::variables::same_read;
+use mig_base::{Circuit, Gate, Items, Literal, NoMemory, Read, is_22};
+use new_board::PlacedUnit;
 use std::alloc::Global;
 
 /// Adds the variables of a product.
-fn push_product(circuit: &Circuit, lits: &[Literal], reads: &mut Vec<Read>) -> Result<(), NoMemory>
-    ensures { OnOk result (AddsProducts reads.old.items reads.new.items (variable_product circuit.now lits.now ∷ [])) }
+fn push_product(lits: &[Literal], reads: &mut Vec<Read>) -> Result<(), NoMemory>
+    ensures { OnOk result (AddsProducts reads.old.items reads.new.items (lits.now ∷ [])) }
 {
-    push_sources(circuit, lits, reads)?;
+    push_sources(lits, reads)?;
     Ok(())
 }
 
 /// Adds the variables of the literals of a product, as they are listed.
-fn push_sources(circuit: &Circuit, lits: &[Literal], reads: &mut Vec<Read>) -> Result<(), NoMemory>
-    ensures { OnOk result (AddsSources reads.old.items reads.new.items (sources circuit.now lits.now)) }
+fn push_sources(lits: &[Literal], reads: &mut Vec<Read>) -> Result<(), NoMemory>
+    ensures { OnOk result (AddsSources reads.old.items reads.new.items (map (λ x. x.source) lits.now)) }
 {
     for lit in lits {
-        push_source(circuit, *lit, reads)?;
+        push_variable(lit.source, reads)?;
     }
     Ok(())
-}
-
-/// Adds the variable of a literal.
-fn push_source(circuit: &Circuit, lit: Literal, reads: &mut Vec<Read>) -> Result<(), NoMemory>
-    ensures { OnOk result (AddsSources reads.old.items reads.new.items (sources circuit.now (lit ∷ []))) }
-{
-    let variable = variable_literal(circuit, lit).source;
-    if !is_variable(circuit, variable) {
-        return Ok(());
-    }
-    push_variable(variable, reads)
 }
 
 /// Adds a variable that is not there yet.
@@ -52,70 +40,54 @@ fn push_variable(variable: Read, reads: &mut Vec<Read>) -> Result<(), NoMemory>
 }
 
 /// Adds those of a row.
-fn push_gate(circuit: &Circuit, gate: &Gate, reads: &mut Vec<Read>) -> Result<(), NoMemory>
-    ensures { OnOk result (AddsProducts reads.old.items reads.new.items (gate_products (variable_gate circuit.now gate.now))) }
+fn push_gate(gate: &Gate, reads: &mut Vec<Read>) -> Result<(), NoMemory>
+    ensures { OnOk result (AddsProducts reads.old.items reads.new.items (gate_products gate.now)) }
 {
     match gate {
         Gate::Never => Ok(()),
-        Gate::Product(lits) => push_product(circuit, lits.items(), reads),
+        Gate::Product(lits) => push_product(lits.items(), reads),
     }
 }
 
 /// Adds those of products.
-fn push_terms(
-    circuit: &Circuit,
-    terms: &[Items<Literal>],
-    reads: &mut Vec<Read>,
-) -> Result<(), NoMemory>
-    ensures { OnOk result (AddsProducts reads.old.items reads.new.items (terms_over circuit.now terms.now)) }
+fn push_terms(terms: &[Items<Literal>], reads: &mut Vec<Read>) -> Result<(), NoMemory>
+    ensures { OnOk result (AddsProducts reads.old.items reads.new.items terms.now) }
 {
     for term in terms {
-        push_product(circuit, term.items(), reads)?;
+        push_product(term.items(), reads)?;
     }
     Ok(())
 }
 
 /// Adds those of a combinational unit: its enable and its terms, or none where it is never enabled.
 fn push_combinational(
-    circuit: &Circuit,
     enable: &Gate,
     terms: &[Items<Literal>],
     reads: &mut Vec<Read>,
 ) -> Result<(), NoMemory>
-    ensures { OnOk result (AddsProducts reads.old.items reads.new.items (comb_products (variable_gate circuit.now enable.now) (terms_over circuit.now terms.now))) }
+    ensures { OnOk result (AddsProducts reads.old.items reads.new.items (comb_products enable.now terms.now)) }
 {
     match enable {
         Gate::Never => Ok(()),
         Gate::Product(lits) => {
-            push_product(circuit, lits.items(), reads)?;
-            push_terms(circuit, terms, reads)
+            push_product(lits.items(), reads)?;
+            push_terms(terms, reads)
         }
-    }
-}
-
-/// Adds those of the terms of a register, if there is one.
-fn push_register(circuit: &Circuit, register: u32, reads: &mut Vec<Read>) -> Result<(), NoMemory>
-    ensures { OnOk result (AddsProducts reads.old.items reads.new.items (register_terms circuit.now (slice_get circuit.now.registers register))) }
-{
-    match circuit.registers.items().get(register as usize) {
-        Some(register) => push_terms(circuit, register.terms.items(), reads),
-        None => Ok(()),
     }
 }
 
 /// Adds those of a registered unit: its terms, and where rows enable it its enable.
 fn push_registered(
-    circuit: &Circuit,
     by_row: bool,
     enable: &Gate,
-    register: u32,
+    terms: &[Items<Literal>],
     reads: &mut Vec<Read>,
 ) -> Result<(), NoMemory>
-    ensures { OnOk result (AddsProducts reads.old.items reads.new.items (products_given circuit.now by_row (variable_gate circuit.now enable.now) (Gives.Visible register))) }
+    ensures { OnOk result (AddsProducts reads.old.items reads.new.items (terms.now ++ (if by_row then gate_products enable.now else []))) }
 {
-    push_register(circuit, register, reads)?;
+    push_terms(terms, reads)?;
     if by_row {
-        push_gate(circuit, enable, reads)?;
+        push_gate(enable, reads)?;
     }
     Ok(())
 }
@@ -124,65 +96,43 @@ fn push_registered(
 fn push_unit(
     circuit: &Circuit,
     by_row: bool,
-    unit: u32,
+    unit: &PlacedUnit,
     reads: &mut Vec<Read>,
 ) -> Result<(), NoMemory>
-    ensures { OnOk result (AddsProducts reads.old.items reads.new.items (driver_products circuit.now by_row (slice_get circuit.now.units unit))) }
+    ensures { OnOk result (AddsProducts reads.old.items reads.new.items (products_by by_row (placed_register circuit.now unit.now) unit.now)) }
 {
-    match circuit.units.items().get(unit as usize) {
-        Some(driver) => push_driver(circuit, by_row, driver, reads),
-        None => Ok(()),
+    match unit_register(circuit, unit.unit) {
+        Some(_) => push_registered(by_row, &unit.enable, unit.terms.items(), reads),
+        None => push_combinational(&unit.enable, unit.terms.items(), reads),
     }
 }
 
-fn push_driver(
-    circuit: &Circuit,
-    by_row: bool,
-    driver: &Driver,
-    reads: &mut Vec<Read>,
-) -> Result<(), NoMemory>
-    ensures { OnOk result (AddsProducts reads.old.items reads.new.items (driver_products circuit.now by_row (Some driver.now))) }
-{
-    match &driver.gives {
-        Gives::Sum(terms) => push_combinational(circuit, &driver.enable, terms.items(), reads),
-        Gives::Visible(register) => push_registered(
-            circuit,
-            by_row,
-            &driver.enable,
-            *register,
-            reads,
-        ),
-    }
-}
-
-/// Adds those of the reset and preset of a register, if there is one.
-fn push_reset(
-    circuit: &Circuit,
-    register: Option<&Register>,
-    reads: &mut Vec<Read>,
-) -> Result<(), NoMemory>
-    ensures { OnOk result (AddsProducts reads.old.items reads.new.items (reset_products circuit.now (option_copied register.entry))) }
-{
-    if let Some(register) = register {
-        push_gate(circuit, &register.reset, reads)?;
-        push_gate(circuit, &register.preset, reads)?;
-    }
-    Ok(())
-}
-
-/// Adds those of the units of a chip.
+/// Adds those of units.
 fn push_units(
     circuit: &Circuit,
     by_row: bool,
-    units: &[(u8, u32)],
+    units: &[PlacedUnit],
     reads: &mut Vec<Read>,
 ) -> Result<(), NoMemory>
-    ensures { OnOk result (AddsProducts reads.old.items reads.new.items (flat_map (λ x. driver_products circuit.now by_row (slice_get circuit.now.units x.1)) units.now)) }
+    ensures { OnOk result (AddsProducts reads.old.items reads.new.items (flat_map (λ x. products_by by_row (placed_register circuit.now x) x) units.now)) }
 {
-    for (_, unit) in units {
-        push_unit(circuit, by_row, *unit, reads)?;
+    for unit in units {
+        push_unit(circuit, by_row, unit, reads)?;
     }
     Ok(())
+}
+
+/// Adds those of the reset and preset of a unit, if there is one.
+fn push_controls(unit: Option<&PlacedUnit>, reads: &mut Vec<Read>) -> Result<(), NoMemory>
+    ensures { OnOk result (AddsProducts reads.old.items reads.new.items (controls_of (option_copied unit.entry))) }
+{
+    match unit {
+        Some(unit) => {
+            push_gate(&unit.reset, reads)?;
+            push_gate(&unit.preset, reads)
+        }
+        None => Ok(()),
+    }
 }
 
 /// The variables that stand in the rows of a new chip.
@@ -193,7 +143,7 @@ fn chip_reads(alloc: Global, circuit: &Circuit, chip: &PlannedChip) -> Result<Ve
     let by_row = is_22(chip.kind);
     push_units(circuit, by_row, chip.units.as_slice(), &mut reads)?;
     if by_row {
-        push_reset(circuit, chip.first_register(circuit), &mut reads)?;
+        push_controls(chip.first_registered(circuit), &mut reads)?;
     }
     Ok(reads)
 }

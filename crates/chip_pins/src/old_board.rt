@@ -1,12 +1,13 @@
 ghost use Rattle.std.specs.Prelude.{◌≡◌, ◌<◌, nat_lt, slice_get, length, IfSome};
 ghost use Rattle.mig_base.specs.Structure.{alias_of as net_alias};
-ghost use Rattle.new_board.specs.NewChip.{unit_net, alias_net, is_register_of, net_literal, net_of_complement, is_complement_of, private_from};
-ghost use Rattle.new_board.specs.InputPins.{wire_for, has_no_driver, chip_from, stood_on};
+ghost use Rattle.new_board.specs.NewChip.{unit_net, alias_net, is_register_of, net_literal, net_of_complement, is_complement_of, private_from, can_stand, has_no_driver};
+ghost use Rattle.new_board.specs.InputPins.{wire_for, chip_from, stood_on};
 
-use crate::aliases::{alias_of, same_bool, same_read, variable_literal, variable_of};
+use crate::variables::{same_bool, same_read, variable_of};
 use equations::{BoardUnit, NetNumbers};
 use mig_base::{Circuit, Kind, Literal, Name, Net, Read, pins};
 use std::marker::Model;
+use structure::{alias_of, variable_literal};
 
 /// The board that is rebuilt: its wiring with the numbers of its nets, its units, its circuit, and its variables in order.
 #[derive(Drop)]
@@ -62,7 +63,13 @@ impl<'a> Old<'a> {
         ensures { result ≡ net_of_complement self.now lit.source lit }
     {
         match lit.source {
-            Read::OfNet(net) => if lit.high { None } else { Some(net) },
+            Read::OfNet(net) => {
+                if !lit.high && self.can_stand(net) {
+                    Some(net)
+                } else {
+                    None
+                }
+            }
             Read::OfRegister(register) => {
                 let net = self.alias_net(register)?;
                 if is_complement(lit, self.net_literal(net)) {
@@ -91,19 +98,20 @@ impl<'a> Old<'a> {
         }
     }
 
-    /// The net by which a variable can be wired to an input pin: a constant, a named net, a private net without driver,
-    /// a register's named alias net.
+    /// Whether an input pin or an enable pin can stand on a net: a constant, a named net, a private net without driver.
+    fn can_stand(&self, net: u32) -> bool
+        ensures { result ≡ can_stand self.now net }
+    {
+        self.is_public(net) || self.has_no_driver(net)
+    }
+
+    /// The net by which a variable can be wired to an input pin: one that a pin can stand on, of a register its named
+    /// alias net.
     pub fn wire_for(&self, variable: Read) -> Option<u32>
         ensures { result ≡ wire_for self.now variable }
     {
         match variable {
-            Read::OfNet(net) => {
-                if self.is_public(net) || self.has_no_driver(net) {
-                    Some(net)
-                } else {
-                    None
-                }
-            }
+            Read::OfNet(net) => { if self.can_stand(net) { Some(net) } else { None } }
             Read::OfRegister(register) => self.alias_net(register),
         }
     }

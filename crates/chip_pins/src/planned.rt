@@ -1,16 +1,17 @@
-ghost use Rattle.std.specs.Prelude.{◌≡◌, Some, option_and_then, slice_get, option_copied};
-ghost use Rattle.new_board.specs.NewChip.{unit_on, unit_register as register_of_unit, register_on, first_registered, first_register, clock_net, is_registered_unit};
+ghost use Rattle.std.specs.Prelude.{◌≡◌, option_copied};
+ghost use Rattle.new_board.specs.NewChip.{unit_on, unit_register as register_of_unit, placed_clock as clock_placed, register_on, first_registered, clock_net};
 
-use mig_base::{Circuit, Gives, Kind, Mode, Name, Register};
+use mig_base::{Circuit, Gives, Kind, Mode, Name};
+use new_board::PlacedUnit;
 use std::marker::Model;
 
-/// A new chip, with its units by their pins there and their numbers, in unit order.
+/// A new chip, with its units in unit order.
 #[derive(Drop)]
 pub struct PlannedChip {
     pub name: Name,
     pub kind: Kind,
     pub mode: Mode,
-    pub units: Vec<(u8, u32)>,
+    pub units: Vec<PlacedUnit>,
 }
 
 impl Model for PlannedChip {
@@ -23,8 +24,8 @@ impl Model for PlannedChip {
 
 impl PlannedChip {
     /// The unit on a pin.
-    pub fn unit_on(&self, pin: u8) -> Option<u32>
-        ensures { result ≡ unit_on self.now.units pin }
+    pub fn unit_on(&self, pin: u8) -> Option<&PlacedUnit>
+        ensures { option_copied result ≡ unit_on self.now.units pin }
     {
         unit_among(self.units.as_slice(), pin)
     }
@@ -33,48 +34,48 @@ impl PlannedChip {
     pub(crate) fn register_on(&self, circuit: &Circuit, pin: u8) -> Option<u32>
         ensures { result ≡ register_on circuit.now self.now pin }
     {
-        unit_register(circuit, self.unit_on(pin)?)
+        unit_register(circuit, self.unit_on(pin)?.unit)
     }
 
     /// The first registered unit.
-    pub(crate) fn first_registered(&self, circuit: &Circuit) -> Option<u32>
-        ensures { result ≡ first_registered circuit.now self.now }
+    pub fn first_registered(&self, circuit: &Circuit) -> Option<&PlacedUnit>
+        ensures { option_copied result ≡ first_registered circuit.now self.now }
     {
-        for (_, unit) in &self.units {
-            if unit_register(circuit, *unit).is_some() {
-                return Some(*unit);
+        for unit in &self.units {
+            if unit_register(circuit, unit.unit).is_some() {
+                return Some(unit);
             }
         }
         None
-    }
-
-    /// The register of that unit.
-    pub fn first_register<'a>(&self, circuit: &'a Circuit) -> Option<&'a Register>
-        ensures { option_copied result ≡ first_register circuit.now self.now }
-    {
-        let register = unit_register(circuit, self.first_registered(circuit)?)?;
-        circuit.registers.items().get(register as usize)
     }
 
     /// The net of the clock pin, where the chip has registered units.
     pub(crate) fn clock_net(&self, circuit: &Circuit) -> Option<u32>
         ensures { result ≡ clock_net circuit.now self.now }
     {
-        let register = self.first_register(circuit)?;
-        Some(register.clock)
+        placed_clock(circuit, self.first_registered(circuit)?)
     }
 }
 
 /// The unit on a pin, among these.
-fn unit_among(units: &[(u8, u32)], pin: u8) -> Option<u32>
-    ensures { result ≡ unit_on units.now pin }
+fn unit_among(units: &[PlacedUnit], pin: u8) -> Option<&PlacedUnit>
+    ensures { option_copied result ≡ unit_on units.now pin }
 {
-    for (place, unit) in units {
-        if *place == pin {
-            return Some(*unit);
+    for unit in units {
+        if unit.pin == pin {
+            return Some(unit);
         }
     }
     None
+}
+
+/// The clock net of a unit's register.
+fn placed_clock(circuit: &Circuit, unit: &PlacedUnit) -> Option<u32>
+    ensures { result ≡ clock_placed circuit.now unit.now }
+{
+    let register = unit_register(circuit, unit.unit)?;
+    let register = circuit.registers.items().get(register as usize)?;
+    Some(register.clock)
 }
 
 /// The register of a unit.

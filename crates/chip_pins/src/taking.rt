@@ -2,13 +2,12 @@ ghost use Rattle.std.specs.Prelude.{◌≡◌, ◌==◌, ◌&&◌, ◌||◌, not
 ghost use Rattle.new_board.specs.NewChip.{is_read as reads, first_of};
 ghost use Rattle.new_board.specs.InputPins.{wire_for, is_free as free_pin, free_pins, input_variables as variables_wanted, Taken, has_pin as has_own, is_taken as taken_pin, taking, take_pins as pins_taken, chip_from, stood_on, input_pins as pins_for_inputs, input_at as input_on};
 
-use crate::aliases::same_read;
 use crate::chip_nets::ChipNets;
 use crate::needed::needed_variables;
 use crate::old_board::Old;
-use crate::tables::{CLOCK_PIN, ordinary_pins};
-use array_rows::pair_pins;
-use mig_base::{Kind, Name, NoMemory, Read};
+use crate::variables::same_read;
+use devices::{ordinary_pins, pair_pins};
+use mig_base::{CLOCK_PIN, Kind, Name, NoMemory, Read};
 use std::alloc::Global;
 
 /// A variable on an input pin.

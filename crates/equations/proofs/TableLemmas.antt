@@ -1,5 +1,5 @@
 -- What tables give, new and after an entry is put.
-use Rattle.std.proofs.Common.{ℕ, ◌≡◌, ◌≢◌, ◌<◌, ◌+◌, ◌*◌, Bool, true, false, eqb, List, length, replicate, drop, Option, Some, sym, ap, ◌∙◌, arith, inl, inr, ◌⊎◌}
+use Rattle.std.proofs.Common.{ℕ, ◌≡◌, ◌≢◌, ◌<◌, ◌+◌, ◌*◌, Bool, true, false, eqb, List, map, length, replicate, drop, Option, Some, sym, ap, ◌∙◌, arith, subst, zero-add, inl, inr, ◌⊎◌}
 use Rattle.std.specs.Prelude.{slice_get, if◌then◌else◌}
 use Rattle.std.proofs.Math.ListN.{set, get_or, length-set}
 use Rattle.std.proofs.lemmas.List.{at_drop_more, length-replicate, get_or-replicate, get_or-set_other}
@@ -8,7 +8,7 @@ use Rattle.std.proofs.lemmas.Option.{slice_get-get_or, get_or_from_slice_get}
 use Rattle.std.proofs.lemmas.Bool.{and_left, and_right, and_from, cond-true, cond-false}
 use Rattle.std.proofs.lemmas.Bool.Decides.{eqb_tells}
 use Rattle.mig_base.specs.declared.nets.PinLine.{PinLine}
-use Rattle.mig_base.specs.Boards.{At, same_at, line_at, place_of}
+use Rattle.mig_base.specs.Boards.{At, ChipUnit, at_of, registers_of, same_at, line_at, place_of}
 use Rattle.equations.specs.Tables.{IsTable}
 
 within : (chips chip pin : ℕ) → chip < chips → pin < 256 → 256 * chip + pin < 256 * chips
@@ -71,3 +71,10 @@ place-table listed i k chips first d table e h small before =
     (λ j p. at_drop_more {X = At} {Y = ℕ} (λ ls. first + (k + place_of (j, p) ls)) listed k d h
     ∙ place-step (same_at (j, p) at) first k (place_of (j, p) (drop (k + 1) listed))
     ∙ ap (λ (n : ℕ). if same_at (j, p) at then first + k else first + (n + place_of (j, p) (drop n listed))) (sym e))
+
+-- a table of the places of registers, counted from 0
+pub register-table : (pins : List At) (units : List ChipUnit) (chips n : ℕ) (t : List ℕ) → pins ≡ map at_of (registers_of units) → chips ≡ n → IsTable (λ q. 0 + place_of q pins) chips t →
+    IsTable (λ q. place_of q (map at_of (registers_of units))) n t
+register-table pins units chips n t same many table =
+    let plain : IsTable (λ q. place_of q pins) chips t = subst (λ (f : At → ℕ). IsTable f chips t) (λ i q. zero-add (place_of q pins) i) table in
+    subst (λ (m : ℕ). IsTable (λ q. place_of q (map at_of (registers_of units))) m t) many (subst (λ (ps : List At). IsTable (λ q. place_of q ps) chips t) same plain)

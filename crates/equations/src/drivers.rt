@@ -6,7 +6,9 @@ use crate::driver_lists::DriverLists;
 use crate::kinds::kinds_of;
 use crate::numbers::Numbers;
 use crate::units::BoardUnit;
-use mig_base::{Driver, Enable, Gate, Gives, Items, Literal, NoMemory, Read, Register, Row, Wire};
+use mig_base::{
+    CLOCK_PIN, Driver, Enable, Gate, Gives, Items, Literal, NoMemory, Read, Register, Row, Wire,
+};
 use std::alloc::Global;
 
 /// The enable by a low-active pin on this net.
@@ -35,8 +37,8 @@ fn can_drive(enable: &Gate) -> bool
 impl<'a> Numbers<'a> {
     /// A row of a chip, on its board.
     fn row(&self, alloc: Global, chip: u32, row: &Row) -> Result<Gate, NoMemory>
-        requires { chip < length self.now.nets.chips }
-        ensures { IfOk result (λ gate. gate ≡ row_on self.now.nets self.now.units.now chip row.now) }
+        requires { chip < length self.now.nets.now.chips }
+        ensures { IfOk result (λ gate. gate ≡ row_on self.now.nets.now self.now.units.now chip row.now) }
     {
         match row {
             Row::Never => Ok(Gate::Never),
@@ -49,8 +51,8 @@ impl<'a> Numbers<'a> {
 
     /// The effective enable of a cell of a chip.
     fn enable(&self, alloc: Global, chip: u32, enable: &Enable) -> Result<Gate, NoMemory>
-        requires { chip < length self.now.nets.chips }
-        ensures { IfOk result (λ gate. gate ≡ enable_on self.now.nets self.now.units.now chip enable.now) }
+        requires { chip < length self.now.nets.now.chips }
+        ensures { IfOk result (λ gate. gate ≡ enable_on self.now.nets.now self.now.units.now chip enable.now) }
     {
         match enable {
             Enable::Always => Ok(Gate::Product(Items::new(Vec::new(alloc)))),
@@ -65,8 +67,8 @@ impl<'a> Numbers<'a> {
 
     /// A unit as a driver.
     pub(crate) fn driver(&self, alloc: Global, unit: &BoardUnit) -> Result<Driver, NoMemory>
-        requires { unit.now.chip < length self.now.nets.chips }
-        ensures { IfOk result (λ driver. driver ≡ driver_of self.now.nets self.now.units.now unit.now) }
+        requires { unit.now.chip < length self.now.nets.now.chips }
+        ensures { IfOk result (λ driver. driver ≡ driver_of self.now.nets.now self.now.units.now unit.now) }
     {
         let cell = unit.cell;
         let enable = self.enable(alloc, unit.chip, &cell.enable)?;
@@ -88,8 +90,8 @@ impl<'a> Numbers<'a> {
 
     /// The register of a registered unit.
     pub(crate) fn register(&self, alloc: Global, unit: &BoardUnit) -> Result<Register, NoMemory>
-        requires { unit.now.chip < length self.now.nets.chips }
-        ensures { IfOk result (λ register. register ≡ register_of self.now.nets self.now.units.now unit.now) }
+        requires { unit.now.chip < length self.now.nets.now.chips }
+        ensures { IfOk result (λ register. register ≡ register_of self.now.nets.now self.now.units.now unit.now) }
     {
         let (chip, cells) = (unit.chip, unit.cells);
         let terms = self.terms(alloc, chip, unit.cell.terms.items())?;
@@ -106,7 +108,7 @@ impl<'a> Numbers<'a> {
 
     /// The units as drivers, in order.
     pub(crate) fn drivers(&self, alloc: Global) -> Result<Vec<Driver>, NoMemory>
-        ensures { IfOk result (λ drivers. drivers.items ≡ map (driver_of self.now.nets self.now.units.now) self.now.units.now) }
+        ensures { IfOk result (λ drivers. drivers.items ≡ map (driver_of self.now.nets.now self.now.units.now) self.now.units.now) }
     {
         let mut drivers = Vec::with_capacity(alloc, self.units.len())?;
         for unit in self.units {
@@ -117,7 +119,7 @@ impl<'a> Numbers<'a> {
 
     /// The registers, in the order of their units.
     pub(crate) fn registers(&self, alloc: Global) -> Result<Vec<Register>, NoMemory>
-        ensures { IfOk result (λ registers. registers.items ≡ map (register_of self.now.nets self.now.units.now) (registers_of self.now.units.now)) }
+        ensures { IfOk result (λ registers. registers.items ≡ map (register_of self.now.nets.now self.now.units.now) (registers_of self.now.units.now)) }
     {
         let mut registers = Vec::new(alloc);
         for unit in self.units {
@@ -135,10 +137,10 @@ impl<'a> Numbers<'a> {
         drivers: &[Driver],
         nets: usize,
     ) -> Result<DriverLists, NoMemory>
-        requires drivers { drivers.now ≡ map (driver_of self.now.nets self.now.units.now) self.now.units.now }
+        requires drivers { drivers.now ≡ map (driver_of self.now.nets.now self.now.units.now) self.now.units.now }
         requires units { length self.now.units.now < 2 ^ 32 }
         ensures size { IfOk result (λ lists. length lists ≡ nets) }
-        ensures drivers { IfOk result (λ lists. (n : ℕ) → n < nets → slice_index_or lists n [] ≡ places_from (drives self.now.nets self.now.units.now n) 0 self.now.units.now) }
+        ensures drivers { IfOk result (λ lists. (n : ℕ) → n < nets → slice_index_or lists n [] ≡ places_from (drives self.now.nets.now self.now.units.now n) 0 self.now.units.now) }
     {
         let mut lists = DriverLists::new(alloc, nets)?;
         for (number, unit) in self.units.iter().enumerate() {
@@ -151,10 +153,10 @@ impl<'a> Numbers<'a> {
 
     /// The nets, given the units as drivers.
     pub(crate) fn wires(&self, alloc: Global, drivers: &[Driver]) -> Result<Vec<Wire>, NoMemory>
-        requires nets { length self.now.nets.nets ≤ 1024 }
-        requires drivers { drivers.now ≡ map (driver_of self.now.nets self.now.units.now) self.now.units.now }
+        requires nets { length self.now.nets.now.nets ≤ 1024 }
+        requires drivers { drivers.now ≡ map (driver_of self.now.nets.now self.now.units.now) self.now.units.now }
         requires units { length self.now.units.now < 2 ^ 32 }
-        ensures { IfOk result (λ wires. wires.items ≡ wires_from self.now.nets self.now.units.now 0 (net_kinds self.now.nets)) }
+        ensures { IfOk result (λ wires. wires.items ≡ wires_from self.now.nets.now self.now.units.now 0 (net_kinds self.now.nets.now)) }
     {
         let kinds = kinds_of(alloc, self.nets.named(), self.nets.private_nets())?;
         let lists = self.drivers_by_net(alloc, drivers, kinds.len())?;
@@ -162,6 +164,3 @@ impl<'a> Numbers<'a> {
         Ok(wires)
     }
 }
-
-/// The pin that clocks every registered cell of a chip.
-const CLOCK_PIN: u8 = 1;

@@ -1,10 +1,9 @@
 ghost use Rattle.std.specs.Prelude.{◌≡◌, ◌≤◌, ◌++◌, ◌||◌, map, filter, length, IfOk, OnOk};
 ghost use Rattle.std.specs.List.{list_any};
 ghost use Rattle.mig_base.specs.Boards.{ChipUnit, reads_register, in_row as row_reads, in_enable as enable_reads, in_cell as cell_reads, is_mute as mute, is_unit as gives_unit, units_from, at_of, registers_of, is_registered as has_register};
-ghost use Rattle.mig_base.specs.DeviceTables.{is_22 as is_22v10};
 
 use crate::net_numbers::At;
-use mig_base::{Cell, ChipCells, Enable, Form, Kind, Lit, NoMemory, Product, Row, Source};
+use mig_base::{Cell, ChipCells, Enable, Form, Lit, NoMemory, Product, Row, Source, is_22};
 use std::alloc::Global;
 use std::marker::Model;
 
@@ -99,13 +98,6 @@ fn in_cells(pin: u8, cells: &[Cell]) -> bool
     ensures { result ≡ list_any (cell_reads pin) cells.now }
 {
     cells.iter().any(|cell| in_cell(pin, cell))
-}
-
-/// Whether a kind is a 22V10.
-pub fn is_22(kind: Kind) -> bool
-    ensures { result ≡ is_22v10 kind }
-{
-    matches!(kind, Kind::Gal22V10 | Kind::Gal22V10Q)
 }
 
 /// Whether a registered cell can change no pin, and nothing on its chip reads it.

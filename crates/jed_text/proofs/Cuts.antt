@@ -4,7 +4,7 @@ use Rattle.std.specs.Option.{option_map}
 use Rattle.std.proofs.lemmas.List.{take_more, take-append-drop}
 use Rattle.std.proofs.lemmas.Bool.{eqb-true}
 use Rattle.mig_base.specs.FuseText.{Lacks, cut_at, pieces, with_front}
-use Rattle.mig_base.proofs.FuseTextLaws.{cut_at-append}
+use Rattle.jed_write.proofs.FuseTextLaws.{cut_at-append}
 use Rattle.std.proofs.lemmas.List.{length-drop}
 use Rattle.std.proofs.Math.Seq.{take-length}
 use Rattle.std.proofs.Common.{◌-◌}

@@ -1,4 +1,4 @@
-//! Reads fuse texts (JESD3-C, in the profile of docs/formats.md).
+//! Reads fuse texts (JESD3-C, in the profile of docs/fuse_text.md).
 #![tactic(auto)]
 
 mod body;

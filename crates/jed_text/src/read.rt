@@ -73,7 +73,7 @@ fn fuses_sent(alloc: Global, sent: Transmission) -> Result<Fuses, JedError>
     fuses_in(alloc, sent.body)
 }
 
-/// The fuses of a fuse text (JESD3-C, in the profile of docs/formats.md), or the first refusal.
+/// The fuses of a fuse text (JESD3-C, in the profile of docs/fuse_text.md), or the first refusal.
 ///
 /// Takes memory in proportion to the fuses, and time in proportion to the bytes.
 ///

@@ -1,1 +1,5 @@
 pub mod PartLemmas
+pub mod FuseTextLaws
+pub mod WrittenFusesLaws
+pub mod WrittenKinds
+pub mod FuseCount

@@ -10,7 +10,7 @@ use Rattle.mig_base.specs.declared.kinds.Kind.{Kind}
 use Rattle.mig_base.specs.DeviceTables.{array_width, has_count}
 use Rattle.mig_base.specs.FuseText.{fuse_sum}
 use Rattle.mig_base.specs.WrittenFuses.{Group, four_hex, lines_of_group, group_lines, states_of_groups, written_line, head_lines, written_body, groups_by, array_rows, row_sizes, tail_sizes, written_groups, design_of, pins_digits}
-use Rattle.mig_base.proofs.WrittenKinds.{is_count, groups_by-states, written-states}
+use Rattle.jed_write.proofs.WrittenKinds.{is_count, groups_by-states, written-states}
 
 drop_one : (sizes : List ℕ) (i : ℕ) → i < length sizes → drop i sizes ≡ get_or sizes i 0 ∷ drop (i + 1) sizes
 drop_one [] i lt = absurd (omega arith)

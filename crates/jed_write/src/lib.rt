@@ -1,4 +1,4 @@
-//! Writes fuse texts (JESD3-C, in the profile of docs/formats.md).
+//! Writes fuse texts (JESD3-C, in the profile of docs/fuse_text.md).
 #![tactic(auto)]
 
 mod digits;

@@ -4,7 +4,7 @@ use Rattle.std.specs.List.{list_any, list_all}
 use Rattle.std.proofs.lemmas.Bool.{eq-eqb, ne_eqb}
 use Rattle.std.proofs.lemmas.Option.{slice_get_within}
 use Rattle.bdd.specs.Tree.{Point}
-use Rattle.mig_base.specs.Accepted.{Among}
+use Rattle.mig_base.specs.Among.{Among}
 use Rattle.mig_base.specs.Reads.{node_reads}
 use Rattle.mig_base.specs.declared.circuit.Read.{Read}
 use Rattle.mig_base.specs.declared.circuit.Read.TheVariants.{OfNet, OfRegister}
@@ -15,14 +15,16 @@ use Rattle.mig_base.specs.declared.nets.Var.TheVariants.{Net, Reg}
 use Rattle.mig_base.specs.declared.nets.VarLit.{VarLit}
 use Rattle.mig_base.specs.declared.nets.VarProduct.{VarProduct}
 use Rattle.mig_base.specs.declared.plans.Part.TheVariants.{Logic}
-use Rattle.ranks.specs.Order.{IsNode, GoesOn, IsOrder}
-use Rattle.ranks.proofs.Amongs.{among-all}
+use Rattle.ranks.specs.Order.{GoesOn, IsOrder}
+use Rattle.mig_base.specs.Reads.{IsNode}
+use Rattle.mig_base.proofs.Amongs.{among-all}
 use Rattle.board.specs.Joined.{Joined, equations_of}
 use Rattle.rails.specs.Variables.{all_rails, same_var}
 use Rattle.rails.specs.Points.{literal_holds}
-use Rattle.cones.specs.AbsorbedNets.{AreAbsorbedNets, AreAbsorbable}
-use Rattle.cones.specs.Joined.{Inverted, Reading, StandsIn, Names, itself, through, IsAbsorbed, IsCone, ReadsAbsorbed, unit_part, literal_read, product_read, terms_read, inverted_read}
-use Rattle.cones.proofs.PartReads.{net-read}
+use Rattle.joiner.specs.AbsorbedNets.{AreAbsorbedNets, AreAbsorbable}
+use Rattle.joiner.specs.Joined.{Inverted, Reading, StandsIn, IsAbsorbed, IsCone, ReadsAbsorbed, unit_part, literal_read, product_read, terms_read, inverted_read}
+use Rattle.joiner.proofs.PartReads.{net-read}
+use Rattle.joiner.proofs.Passing.{named-left}
 use Rattle.joiner.specs.JoinedPart.{ReadsVariables}
 
 -- what is read is the same where the literals that stand in it read the same
@@ -55,11 +57,6 @@ module _ (r q : Reading) where
 
   inverted_agrees : (side : Bool) (sum : Inverted) → ((x : VarLit) → StandsIn x sum.terms → Agrees x) → inverted_read r side sum ≡ inverted_read q side sum
   inverted_agrees side sum h = terms_agree (if sum.low then not side else side) sum.terms h
-
--- a variable that is named is no absorbed net
-pub is_free : (b : Joined) (absorbed : List ℕ) (v : Var) (terms : List VarProduct) → Names b absorbed v terms → (n u : ℕ) → v ≡ Net n → IsAbsorbed b absorbed n u → ⊥
-is_free b absorbed v terms (itself x s e free) = free
-is_free b absorbed v terms (through x s n u e a rest) = is_free b absorbed v (unit_part b u Logic).terms rest
 
 -- the reading r with both literals of the net n at what the unit u gives
 abbrev set_net : Joined → Reading → ℕ → ℕ → Reading
@@ -232,7 +229,7 @@ reading_exists b absorbed nets terms vars order may are is cone p =
       made.0,
       record {
         each = λ w a side. made.1 w.0
-            (λ n u e. is_free b absorbed w.0 terms ((cone.exact w.0).0 (named w vars a)) n u e) side;
+            (λ n u e. named-left b absorbed w.0 terms ((cone.exact w.0).0 (named w vars a)) n u e) side;
       },
       made.2,
     )

@@ -7,7 +7,7 @@ use Rattle.std.proofs.lemmas.Option.{slice_get_within}
 use Rattle.bdd.specs.Tree.{Point}
 use Rattle.bdd.specs.Diagram.{Diagram, function_of, Keeps}
 use Rattle.bdd.specs.declared.Ref.{Ref}
-use Rattle.mig_base.specs.Accepted.{Among}
+use Rattle.mig_base.specs.Among.{Among}
 use Rattle.mig_base.specs.declared.circuit.Circuit.{Circuit}
 use Rattle.mig_base.specs.declared.circuit.Driver.{Driver}
 use Rattle.mig_base.specs.declared.circuit.Read.{Read}
@@ -19,22 +19,23 @@ use Rattle.mig_base.specs.declared.nets.VarProduct.{VarProduct}
 use Rattle.mig_base.specs.declared.plans.Part.TheVariants.{Logic}
 use Rattle.rails.specs.Variables.{all_rails, same_var}
 use Rattle.rails.specs.Points.{mirror, inverse, IsMonotone, Is}
-use Rattle.ranks.specs.Order.{IsNode, IsOrder}
-use Rattle.ranks.proofs.Amongs.{among-split}
+use Rattle.ranks.specs.Order.{IsOrder}
+use Rattle.mig_base.specs.Reads.{IsNode}
+use Rattle.mig_base.proofs.Amongs.{among-split}
 use Rattle.structure.specs.Absorbable.{is_plain, IsAbsorbable}
 use Rattle.board.specs.Joined.{Joined, equations_of}
-use Rattle.cones.specs.AbsorbedNets.{AreAbsorbedNets, AreAbsorbable}
-use Rattle.cones.specs.Joined.{Reading, StandsIn, itself, through, IsAbsorbed, unit_part, terms_read, inverted_read}
-use Rattle.cones.proofs.PartReads.{net-read}
+use Rattle.joiner.specs.declared.marks.Marks.{Marks}
+use Rattle.joiner.specs.AbsorbedNets.{AreAbsorbable}
+use Rattle.joiner.specs.Joined.{Reading, StandsIn, itself, through, IsAbsorbed, unit_part, terms_read, inverted_read}
+use Rattle.joiner.proofs.PartReads.{net-read}
 use Rattle.joiner.specs.JoinedPart.{ReadsVariables}
-use Rattle.cones.specs.Marked.{unit_at}
-use Rattle.joiner.specs.Pairs.{pair_at, pair_named, pair_by, is_pair, is_listed, is_known, lits_known, terms_known, IsProperPair, AreProper, ReadsPair, Reads, ReadsEither, AreReadings, opposite_reading, IsPairOf, IsNetPair, IsJoinedNode, ReadsNets, ReadPairs, IsWithin, HasPairs}
+use Rattle.joiner.specs.Marked.{AreNeededNets, marked, unit_at}
+use Rattle.joiner.specs.Pairs.{AreClosed, pair_at, pair_named, pair_by, is_pair, is_listed, is_known, lits_known, terms_known, IsProperPair, AreProper, ReadsPair, Reads, ReadsEither, AreReadings, opposite_reading, IsPairOf, IsNetPair, IsJoinedNode, ReadsNets, ReadPairs, IsWithin, HasPairs}
 use Rattle.joiner.specs.declared.pairs.Pair.{Pair}
 use Rattle.joiner.proofs.Opposites.{not_not, terms_turned, inverted_turned}
 use Rattle.joiner.proofs.MirroredLaws.{literal_mirrored}
 use Rattle.joiner.proofs.PairLaws.{pairs_kept, reading_before, reading_after, reads_kept}
 use Rattle.joiner.proofs.OrderLaws.{read_before, new_there}
-use Rattle.joiner.proofs.Existence.{decided}
 
 module _ (vars : List (Var × Bool)) (a b : Diagram) (pairs : List (Option Pair)) (k : Keeps a b) (proper : AreProper vars a pairs) (terms : List VarProduct) (plain : Ref) (sum : Reads vars a pairs (λ r. terms_read r true terms) plain) where
   -- a sum
@@ -158,13 +159,26 @@ or_true : (c : Bool) → (c || true) ≡ true
 or_true true = refl
 or_true false = refl
 
-module _ (b : Joined) (absorbed : List ℕ) (nets : List (Option ℕ)) (vars : List (Var × Bool)) (pairs : List (Option Pair)) (are : AreAbsorbedNets b absorbed nets) where
+-- the table tells whether an absorbed unit drives a marked net
+decided-marked : (b : Joined) (absorbed : List ℕ) (m : Marks) (nets : List (Option ℕ)) → AreNeededNets b absorbed m nets → (n : ℕ) → marked m (Net n) ≡ true
+    → ((u : ℕ) × IsAbsorbed b absorbed n u) ⊎ ((u : ℕ) → IsAbsorbed b absorbed n u → ⊥)
+decided-marked b absorbed m nets are n mark = by (unit_at nets n) refl
+  where
+    by : (o : Option ℕ) → unit_at nets n ≡ o → ((u : ℕ) × IsAbsorbed b absorbed n u) ⊎ ((u : ℕ) → IsAbsorbed b absorbed n u → ⊥)
+    by None e = inr (λ u a. let f : None ≡ Some u = sym e ∙ are.every n u a mark in cc)
+    by (Some u) e = inl (u, are.sound n u e)
+
+-- all variables of these products are marked
+abbrev pub HasMarked : Marks → List VarProduct → Type 0
+HasMarked m terms = (x : VarLit) → StandsIn x terms → marked m x.var ≡ true
+
+module _ (b : Joined) (absorbed : List ℕ) (marks : Marks) (nets : List (Option ℕ)) (vars : List (Var × Bool)) (pairs : List (Option Pair)) (are : AreNeededNets b absorbed marks nets) where
   -- the nets that stand in these products have their pairs
   abbrev pub HasRead : List VarProduct → Type 0
   HasRead terms = (x : VarLit) (m w : ℕ) → StandsIn x terms → x.var ≡ Net m → IsAbsorbed b absorbed m w → IsWithin b absorbed vars (unit_part b w Logic).terms → is_pair (pair_at pairs m) ≡ true
 
-  literal_known : (terms : List VarProduct) → IsWithin b absorbed vars terms → HasRead terms → (x : VarLit) → StandsIn x terms → is_known vars pairs x.var ≡ true
-  literal_known terms within has x s = by x.var refl
+  literal_known : (terms : List VarProduct) → HasMarked marks terms → IsWithin b absorbed vars terms → HasRead terms → (x : VarLit) → StandsIn x terms → is_known vars pairs x.var ≡ true
+  literal_known terms there within has x s = by x.var refl
     where
       listed : ((n u : ℕ) → x.var ≡ Net n → IsAbsorbed b absorbed n u → ⊥) → is_known vars pairs x.var ≡ true
       listed free = ap (λ c. is_pair (pair_named pairs x.var) || c) (within x.var (itself x s refl free)) ∙ or_true (is_pair (pair_named pairs x.var))
@@ -179,83 +193,75 @@ module _ (b : Joined) (absorbed : List ℕ) (nets : List (Option ℕ)) (vars : L
           number i j e = cc
 
       by : (v : Var) → x.var ≡ v → is_known vars pairs x.var ≡ true
-      by (Net m) e = of_net m e (decided b absorbed nets are m)
+      by (Net m) e = of_net m e (decided-marked b absorbed marks nets are m (subst (λ (v : Var). marked marks v ≡ true) e (there x s)))
       by (Reg u) e = listed (λ n w f a. let wrong : Reg u ≡ Net n = sym e ∙ f in cc)
 
-  pub all_known : (terms : List VarProduct) → IsWithin b absorbed vars terms → HasRead terms → terms_known vars pairs terms ≡ true
-  all_known terms within has =
+  pub all_known : (terms : List VarProduct) → HasMarked marks terms → IsWithin b absorbed vars terms → HasRead terms → terms_known vars pairs terms ≡ true
+  all_known terms there within has =
       all_from (λ (t : VarProduct). lits_known vars pairs t.lits) terms
-      (λ t a. all_from (λ (x : VarLit). is_known vars pairs x.var) t.lits (λ x m. literal_known terms within has x (record { product = t; among = a; within = m })))
+      (λ t a. all_from (λ (x : VarLit). is_known vars pairs x.var) t.lits (λ x m. literal_known terms there within has x (record { product = t; among = a; within = m })))
 
--- the pairs of the nets that an order has had so far
-abbrev pub HasPairsOf : Joined → List ℕ → List (Var × Bool) → List (Option Pair) → List Read → Type 0
-HasPairsOf b absorbed vars pairs before =
-    (n u : ℕ) → Among (OfNet n) before → IsAbsorbed b absorbed n u → IsWithin b absorbed vars (unit_part b u Logic).terms → is_pair (pair_at pairs n) ≡ true
+-- the pairs of the marked nets that an order has had so far
+abbrev pub HasPairsOf : Joined → List ℕ → Marks → List (Var × Bool) → List (Option Pair) → List Read → Type 0
+HasPairsOf b absorbed marks vars pairs before =
+    (n u : ℕ) → Among (OfNet n) before → marked marks (Net n) ≡ true → IsAbsorbed b absorbed n u → IsWithin b absorbed vars (unit_part b u Logic).terms → is_pair (pair_at pairs n) ≡ true
 
-module _ (b : Joined) (absorbed : List ℕ) (nets : List (Option ℕ)) (vars : List (Var × Bool)) (e : Diagram) (old new : List (Option Pair)) (order : List Read) (i : ℕ) (may : AreAbsorbable b absorbed) (are : AreAbsorbedNets b absorbed nets) (is : IsOrder (equations_of b) order) where
-  known_here : (n u : ℕ) → slice_get order i ≡ Some (OfNet n) → IsAbsorbed b absorbed n u → IsWithin b absorbed vars (unit_part b u Logic).terms → HasPairsOf b absorbed vars old (take i order)
+module _ (b : Joined) (absorbed : List ℕ) (marks : Marks) (nets : List (Option ℕ)) (vars : List (Var × Bool)) (e : Diagram) (old new : List (Option Pair)) (order : List Read) (i : ℕ) (may : AreAbsorbable b absorbed) (are : AreNeededNets b absorbed marks nets) (closed : AreClosed b absorbed marks) (is : IsOrder (equations_of b) order) where
+  known_here : (n u : ℕ) → slice_get order i ≡ Some (OfNet n) → marked marks (Net n) ≡ true → IsAbsorbed b absorbed n u → IsWithin b absorbed vars (unit_part b u Logic).terms → HasPairsOf b absorbed marks vars old (take i order)
       → terms_known vars old (unit_part b u Logic).terms ≡ true
-  known_here n u at a within has =
-      all_known b absorbed nets vars old are (unit_part b u Logic).terms within
-      (λ x m w s f am inner. has m w (before (OfNet m) (read_before (equations_of b) [] order i (OfNet n) (OfNet m) is.behind at (net-read b absorbed n u m x may a s f) (omega (arith, slice_get_within (equations_of b).nets m am.wire am.on)))) am inner)
+  known_here n u at mark a within has =
+      all_known b absorbed marks nets vars old are (unit_part b u Logic).terms (closed n u a mark) within
+      (λ x m w s f am inner. has m w (before (OfNet m) (read_before (equations_of b) [] order i (OfNet n) (OfNet m) is.behind at (net-read b absorbed n u m x may a s f) (omega (arith, slice_get_within (equations_of b).nets m am.wire am.on)))) (subst (λ (v : Var). marked marks v ≡ true) f (closed n u a mark x s)) am inner)
     where
       before : (w : Read) → Among w [] ⊎ Among w (take i order) → Among w (take i order)
       before w (inl h) = absurd h
       before w (inr h) = h
 
-  has_here : (n u : ℕ) (o : Option Pair) → IsNetPair b nets vars e old n o → IsAbsorbed b absorbed n u → terms_known vars old (unit_part b u Logic).terms ≡ true → is_pair o ≡ true
-  has_here n u (Some q) h a known = refl
-  has_here n u None h a known = let f = subst (λ q. IfSome q (λ w. terms_known vars old (unit_part b w Logic).terms ≡ false)) (named n u a) h in let wrong : true ≡ false = sym known ∙ f in cc
-    where
-      named : (n u : ℕ) → IsAbsorbed b absorbed n u → unit_at nets n ≡ Some u
-      named n u a = read nets n u ((are.each n u).1 a)
-        where
-          read : (xs : List (Option ℕ)) (n u : ℕ) → slice_get xs n ≡ Some (Some u) → get_or xs n None ≡ Some u
-          read [] n u e = cc
-          read (x ∷ xs) zero u e = cc
-          read (x ∷ xs) (suc n) u e = read xs n u e
+  has_here : (n u : ℕ) (o : Option Pair) → IsNetPair b nets vars e old n o → marked marks (Net n) ≡ true → IsAbsorbed b absorbed n u → terms_known vars old (unit_part b u Logic).terms ≡ true → is_pair o ≡ true
+  has_here n u (Some q) h mark a known = refl
+  has_here n u None h mark a known = let f = subst (λ q. IfSome q (λ w. terms_known vars old (unit_part b w Logic).terms ≡ false)) (are.every n u a mark) h in let wrong : true ≡ false = sym known ∙ f in cc
 
   -- with one more node of the order the table has its pair
-  at_net : (m : ℕ) (o : Option Pair) → slice_get order i ≡ Some (OfNet m) → m < length old → IsNetPair b nets vars e old m o → HasPairsOf b absorbed vars old (take i order)
-      → HasPairsOf b absorbed vars (set old m o) (take i order ++ OfNet m ∷ [])
-  at_net m o at l pair has n u am a within = by (among-split (OfNet n) (take i order) (OfNet m ∷ []) am)
+  at_net : (m : ℕ) (o : Option Pair) → slice_get order i ≡ Some (OfNet m) → m < length old → IsNetPair b nets vars e old m o → HasPairsOf b absorbed marks vars old (take i order)
+      → HasPairsOf b absorbed marks vars (set old m o) (take i order ++ OfNet m ∷ [])
+  at_net m o at l pair has n u am mark a within = by (among-split (OfNet n) (take i order) (OfNet m ∷ []) am)
     where
       number : (i j : ℕ) → OfNet i ≡ OfNet j → i ≡ j
       number i j e = cc
 
-      here : (k : ℕ) → k ≡ m → IsAbsorbed b absorbed k u → IsWithin b absorbed vars (unit_part b u Logic).terms → is_pair (pair_at (set old m o) k) ≡ true
-      here k same a within =
+      here : (k : ℕ) → k ≡ m → marked marks (Net k) ≡ true → IsAbsorbed b absorbed k u → IsWithin b absorbed vars (unit_part b u Logic).terms → is_pair (pair_at (set old m o) k) ≡ true
+      here k same mark a within =
           subst (λ j. is_pair (pair_at (set old m o) j) ≡ true) (sym same)
           (ap is_pair (get_or-set_same old m o None l)
-          ∙ has_here m u o pair (subst (λ j. IsAbsorbed b absorbed j u) same a) (known_here m u at (subst (λ j. IsAbsorbed b absorbed j u) same a) within has))
+          ∙ has_here m u o pair (subst (λ (j : ℕ). marked marks (Net j) ≡ true) same mark) (subst (λ j. IsAbsorbed b absorbed j u) same a) (known_here m u at (subst (λ (j : ℕ). marked marks (Net j) ≡ true) same mark) (subst (λ j. IsAbsorbed b absorbed j u) same a) within has))
 
       there : Among (OfNet n) (take i order) → is_pair (pair_at (set old m o) n) ≡ true
       there h =
           ap is_pair (get_or-set_other old m n o None (λ same. new_there (equations_of b) [] order i (OfNet m) is.behind at (inr (subst (λ j. Among (OfNet j) (take i order)) same h))))
-          ∙ has n u h a within
+          ∙ has n u h mark a within
 
       by : Among (OfNet n) (take i order) ⊎ Among (OfNet n) (OfNet m ∷ []) → is_pair (pair_at (set old m o) n) ≡ true
       by (inl h) = there h
-      by (inr (inl same)) = here n (number n m same) a within
+      by (inr (inl same)) = here n (number n m same) mark a within
       by (inr (inr none)) = absurd none
 
   pub has_more : (v : Read) → slice_get order i ≡ Some v → IsNode (equations_of b) v → length old ≡ length (equations_of b).nets → IsJoinedNode b nets vars e old new v
-      → HasPairsOf b absorbed vars old (take i order) → HasPairsOf b absorbed vars new (take i order ++ v ∷ [])
-  has_more (OfRegister j) at node count same has = λ n u am a within.
-      subst (λ ps. is_pair (pair_at ps n) ≡ true) (sym same) (has n u (by n (among-split (OfNet n) (take i order) (OfRegister j ∷ []) am)) a within)
+      → HasPairsOf b absorbed marks vars old (take i order) → HasPairsOf b absorbed marks vars new (take i order ++ v ∷ [])
+  has_more (OfRegister j) at node count same has = λ n u am mark a within.
+      subst (λ ps. is_pair (pair_at ps n) ≡ true) (sym same) (has n u (by n (among-split (OfNet n) (take i order) (OfRegister j ∷ []) am)) mark a within)
     where
       by : (n : ℕ) → Among (OfNet n) (take i order) ⊎ Among (OfNet n) (OfRegister j ∷ []) → Among (OfNet n) (take i order)
       by n (inl h) = h
       by n (inr (inl e)) = cc
       by n (inr (inr none)) = absurd none
   has_more (OfNet m) at node count (o, same, pair) has =
-      subst (λ ps. HasPairsOf b absorbed vars ps (take i order ++ OfNet m ∷ [])) (sym same) (at_net m o at (omega (arith, count, node)) pair has)
+      subst (λ ps. HasPairsOf b absorbed marks vars ps (take i order ++ OfNet m ∷ [])) (sym same) (at_net m o at (omega (arith, count, node)) pair has)
 
 -- what a whole order has
-pub has_all : (b : Joined) (absorbed : List ℕ) (vars : List (Var × Bool)) (pairs : List (Option Pair)) (order : List Read) → IsOrder (equations_of b) order
-    → HasPairsOf b absorbed vars pairs order → HasPairs b absorbed vars pairs
-has_all b absorbed vars pairs order is has n u a within =
-    has n u (is.every (OfNet n) (omega (arith, slice_get_within (equations_of b).nets n a.wire a.on))) a within
+pub has_all : (b : Joined) (absorbed : List ℕ) (marks : Marks) (vars : List (Var × Bool)) (pairs : List (Option Pair)) (order : List Read) → IsOrder (equations_of b) order
+    → HasPairsOf b absorbed marks vars pairs order → HasPairs b absorbed marks vars pairs
+has_all b absorbed marks vars pairs order is has n u mark a within =
+    has n u (is.every (OfNet n) (omega (arith, slice_get_within (equations_of b).nets n a.wire a.on))) mark a within
 
 pub count_more : (b : Joined) (nets : List (Option ℕ)) (vars : List (Var × Bool)) (e : Diagram) (old new : List (Option Pair)) (v : Read) → IsJoinedNode b nets vars e old new v → length new ≡ length old
 count_more b nets vars e old new (OfRegister j) same = ap length same

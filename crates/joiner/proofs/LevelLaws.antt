@@ -15,8 +15,9 @@ use Rattle.rails.specs.Levels.{AreLevels, IsLevel, level_of, side_under, rail_un
 use Rattle.rails.proofs.RailLemmas.{is_pure}
 use Rattle.rails.proofs.FoundLemmas.{found}
 use Rattle.rails.proofs.PointLemmas.{rail_level}
-use Rattle.cones.specs.Joined.{Inverted, Reading, literal_read, product_read, terms_read, inverted_read}
-use Rattle.joiner.specs.JoinedLevels.{Levelling, literal_level, product_level, terms_level, inverted_level}
+use Rattle.joiner.specs.Joined.{Inverted, Reading, literal_read, product_read, terms_read, inverted_read}
+use Rattle.level_laws.specs.VariableLevels.{Levelling, literal_level, product_level, terms_level}
+use Rattle.joiner.specs.JoinedLevels.{inverted_level}
 
 -- a literal of this sign under a level: whether it is 1, and where the level is X, whatever `unknown` says
 abbrev pub read_under : Bool → Bool → Level → Bool

@@ -1,3 +1,9 @@
+pub mod Marking
+pub mod PartReads
+pub mod Passing
+pub mod AbsorbedLaws
+pub mod Listing
+pub mod ConeLaws
 pub mod Opposites
 pub mod MirroredLaws
 pub mod LevelLaws
@@ -6,4 +12,3 @@ pub mod OrderLaws
 pub mod Existence
 pub mod JoiningLaws
 pub mod JoinedLaws
-pub mod TestLaws

@@ -3,7 +3,7 @@ use Rattle.std.proofs.Common.{◌≡◌, Bool, true, false, not, ◌&&◌, ◌||
 use Rattle.std.specs.List.{list_any, list_all}
 use Rattle.mig_base.specs.declared.nets.VarLit.{VarLit}
 use Rattle.mig_base.specs.declared.nets.VarProduct.{VarProduct}
-use Rattle.cones.specs.Joined.{Inverted, Reading, literal_read, product_read, terms_read, inverted_read}
+use Rattle.joiner.specs.Joined.{Inverted, Reading, literal_read, product_read, terms_read, inverted_read}
 use Rattle.joiner.specs.Pairs.{opposite_reading}
 
 pub not_not : (a : Bool) → not (not a) ≡ a

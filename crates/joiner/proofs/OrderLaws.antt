@@ -1,11 +1,12 @@
 -- Nodes stand behind what they read.
 use Rattle.std.proofs.Common.{ℕ, zero, suc, ◌≡◌, ◌⊎◌, List, [], ◌∷◌, take, slice_get, Some, sym, subst, inl, inr}
-use Rattle.mig_base.specs.Accepted.{Among}
+use Rattle.mig_base.specs.Among.{Among}
 use Rattle.mig_base.specs.Reads.{node_reads}
 use Rattle.mig_base.specs.declared.circuit.Read.{Read}
 use Rattle.mig_base.specs.declared.circuit.Circuit.{Circuit}
-use Rattle.ranks.specs.Order.{IsNode, GoesOn}
-use Rattle.ranks.proofs.Amongs.{among-all}
+use Rattle.ranks.specs.Order.{GoesOn}
+use Rattle.mig_base.specs.Reads.{IsNode}
+use Rattle.mig_base.proofs.Amongs.{among-all}
 
 same_item : (x v : Read) → Some x ≡ Some v → x ≡ v
 same_item x v e = cc

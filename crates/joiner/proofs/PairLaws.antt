@@ -5,7 +5,7 @@ use Rattle.std.proofs.lemmas.Bool.{eqb-true}
 use Rattle.bdd.specs.Tree.{Point}
 use Rattle.bdd.specs.Diagram.{Diagram, function_of, Keeps, IsConjunction, IsDisjunction}
 use Rattle.bdd.specs.declared.Ref.{Ref}
-use Rattle.mig_base.specs.Accepted.{Among}
+use Rattle.mig_base.specs.Among.{Among}
 use Rattle.mig_base.specs.declared.nets.Var.{Var}
 use Rattle.mig_base.specs.declared.nets.Var.TheVariants.{Net, Reg}
 use Rattle.mig_base.specs.declared.nets.VarLit.{VarLit}
@@ -14,7 +14,7 @@ use Rattle.rails.specs.Variables.{Held, IsFit, all_rails, same_var}
 use Rattle.rails.specs.Points.{row_holds, literal_holds, IsMonotone, IsProper, Is}
 use Rattle.rails.proofs.ComposeLemmas.{function_kept}
 use Rattle.rails.proofs.ValueLemmas.{and_rises, or_rises, monotone_same}
-use Rattle.cones.specs.Joined.{Reading, literal_read}
+use Rattle.joiner.specs.Joined.{Reading, literal_read}
 use Rattle.joiner.specs.Pairs.{pair_at, pair_named, is_pair, is_listed, is_known, literal_by, IsProperPair, AreProper, ReadsPair, IsReading, Reads}
 use Rattle.joiner.specs.declared.pairs.Pair.{Pair}
 

@@ -1,15 +1,16 @@
 -- A joined part as a function over two rails, or why there is none.
 use Rattle.std.specs.Prelude.{◌≡◌, ℕ, ◌<◌, ◌≤◌, Bool, true, List, length}
 use Rattle.bdd.specs.Tree.{Point}
-use Rattle.mig_base.specs.Accepted.{Among}
+use Rattle.mig_base.specs.Among.{Among}
 use Rattle.mig_base.specs.declared.levels.Level.{Level}
 use Rattle.mig_base.specs.declared.nets.Var.{Var}
 use Rattle.board.specs.Joined.{Joined}
 use Rattle.rails.specs.Variables.{all_rails}
 use Rattle.rails.specs.Points.{literal_holds, IsMonotone}
 use Rattle.rails.specs.Levels.{AreLevels, value_under}
-use Rattle.cones.specs.Joined.{Inverted, Reading, inverted_read, ReadsAbsorbed, IsCone}
-use Rattle.joiner.specs.JoinedLevels.{Levelling, LevelsAbsorbed, HasLevels, inverted_level}
+use Rattle.joiner.specs.Joined.{Inverted, Reading, inverted_read, ReadsAbsorbed, IsCone}
+use Rattle.level_laws.specs.VariableLevels.{Levelling}
+use Rattle.joiner.specs.JoinedLevels.{LevelsAbsorbed, HasLevels, inverted_level}
 use Rattle.joiner.specs.declared.JoinError.{JoinError}
 use Rattle.joiner.specs.declared.JoinError.TheVariants.{ConeWide, Memory}
 

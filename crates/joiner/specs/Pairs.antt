@@ -16,8 +16,9 @@ use Rattle.structure.specs.Absorbable.{IsAbsorbable}
 use Rattle.board.specs.Joined.{Joined}
 use Rattle.rails.specs.Variables.{all_rails, same_var}
 use Rattle.rails.specs.Points.{mirror, IsProper}
-use Rattle.cones.specs.Joined.{Inverted, Reading, Names, IsAbsorbed, unit_part, inverted_read}
-use Rattle.cones.specs.Marked.{unit_at}
+use Rattle.joiner.specs.Joined.{Inverted, Reading, StandsIn, Names, IsAbsorbed, unit_part, inverted_read}
+use Rattle.joiner.specs.declared.marks.Marks.{Marks}
+use Rattle.joiner.specs.Marked.{marked, unit_at}
 use Rattle.joiner.specs.JoinedPart.{ReadsVariables}
 use Rattle.joiner.specs.declared.pairs.Pair.{Pair}
 
@@ -112,14 +113,18 @@ ReadsNets b nets r = (n u : ℕ) → unit_at nets n ≡ Some u → (side : Bool)
 abbrev pub ReadPairs : Joined → List (Option ℕ) → List (Var × Bool) → Diagram → List (Option Pair) → Type 0
 ReadPairs b nets vars d pairs = (p : Point) (r : Reading) → ReadsVariables vars p r → ReadsNets b nets r → IsReading vars d pairs p r
 
+-- the units of absorbed nets that are marked have marked all that they name
+abbrev pub AreClosed : Joined → List ℕ → Marks → Type 0
+AreClosed b absorbed m = (n u : ℕ) → IsAbsorbed b absorbed n u → marked m (Net n) ≡ true → (x : VarLit) → StandsIn x (unit_part b u Logic).terms → marked m x.var ≡ true
+
 -- all that the unit names is listed
 abbrev pub IsWithin : Joined → List ℕ → List (Var × Bool) → List VarProduct → Type 0
 IsWithin b absorbed vars terms = (v : Var) → Names b absorbed v terms → is_listed vars v ≡ true
 
--- each absorbed net whose unit names listed variables alone has a pair
-abbrev pub HasPairs : Joined → List ℕ → List (Var × Bool) → List (Option Pair) → Type 0
-HasPairs b absorbed vars pairs =
-    (n u : ℕ) → IsAbsorbed b absorbed n u → IsWithin b absorbed vars (unit_part b u Logic).terms → is_pair (pair_at pairs n) ≡ true
+-- each absorbed net that is marked and whose unit names listed variables alone has a pair
+abbrev pub HasPairs : Joined → List ℕ → Marks → List (Var × Bool) → List (Option Pair) → Type 0
+HasPairs b absorbed m vars pairs =
+    (n u : ℕ) → marked m (Net n) ≡ true → IsAbsorbed b absorbed n u → IsWithin b absorbed vars (unit_part b u Logic).terms → is_pair (pair_at pairs n) ≡ true
 
 -- a net gets its pair, and a register changes nothing
 abbrev pub IsJoinedNode : Joined → List (Option ℕ) → List (Var × Bool) → Diagram → List (Option Pair) → List (Option Pair) → Read → Type 0

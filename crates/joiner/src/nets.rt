@@ -3,17 +3,20 @@ ghost use Rattle.std.specs.Prelude.{◌≡◌, ◌<◌, ℕ, true, List, length,
 ghost use Rattle.bdd.specs.Diagram.{IsCanonical, Keeps};
 ghost use Rattle.board.specs.Joined.{equations_of};
 ghost use Rattle.rails.specs.Variables.{IsFit};
-ghost use Rattle.ranks.specs.Order.{IsNode, IsOrder};
-ghost use Rattle.cones.specs.AbsorbedNets.{AreAbsorbedNets, AreAbsorbable};
-ghost use Rattle.cones.specs.Joined.{inverted_read};
-ghost use Rattle.joiner.specs.Pairs.{terms_known, AreProper, ReadsEither, IsPairOf, IsNetPair, IsJoinedNode, ReadPairs, HasPairs, NamesAbsorbable, pair_by as pair_of_both};
+ghost use Rattle.ranks.specs.Order.{IsOrder};
+ghost use Rattle.mig_base.specs.Reads.{IsNode};
+ghost use Rattle.joiner.specs.declared.marks.Marks.{Marks};
+ghost use Rattle.joiner.specs.AbsorbedNets.{AreAbsorbable};
+ghost use Rattle.joiner.specs.Marked.{AreNeededNets};
+ghost use Rattle.joiner.specs.Joined.{inverted_read};
+ghost use Rattle.joiner.specs.Pairs.{AreClosed, terms_known, AreProper, ReadsEither, IsPairOf, IsNetPair, IsJoinedNode, ReadPairs, HasPairs, NamesAbsorbable, pair_by as pair_of_both};
 
 use crate::pairs::{Pair, are_known, no_pairs};
 use crate::parts::{is_inverted, part_terms};
+use crate::pass::unit_at_net;
 use crate::sums::sum;
 use bdd::Ref;
 use board::Board;
-use cones::unit_at_net;
 use mig_base::{NoMemory, Part, Read, Var, VarProduct};
 use rails::Rails;
 use std::alloc::Global;
@@ -140,7 +143,7 @@ fn join_node(
     Ok(())
 }
 
-/// The pairs of all absorbed nets that name listed variables alone, made along an order of evaluation.
+/// The pairs of the nets of the table that name listed variables alone, made along an order of evaluation.
 pub(crate) fn joined_nets(
     alloc: Global,
     board: &Board,
@@ -160,7 +163,7 @@ pub(crate) fn joined_nets(
     ensures canonical { IsCanonical rails.new.graph }
     ensures proper { IfOk result (λ pairs. AreProper rails.old.vars rails.new.graph pairs.items) }
     ensures read { IfOk result (λ pairs. ReadPairs board.now nets.now rails.old.vars rails.new.graph pairs.items) }
-    ensures every { IfOk result (λ pairs. (absorbed : List ℕ) → AreAbsorbedNets board.now absorbed nets.now → AreAbsorbable board.now absorbed → HasPairs board.now absorbed rails.old.vars pairs.items) }
+    ensures every { IfOk result (λ pairs. (absorbed : List ℕ) (marks : Marks) → AreNeededNets board.now absorbed marks nets.now → AreAbsorbable board.now absorbed → AreClosed board.now absorbed marks → HasPairs board.now absorbed marks rails.old.vars pairs.items) }
 {
     let mut pairs = no_pairs(alloc, nets.len())?;
     for node in order {

@@ -1,7 +1,7 @@
 //! The parts of a board's units: their products and their inversion.
 ghost use Rattle.std.specs.Prelude.{◌≡◌, ◌<◌, length, slice_get};
 ghost use Rattle.board.specs.Joined.{equations_of};
-ghost use Rattle.cones.specs.Joined.{unit_part, logic_low as logic_low_of, register_low as register_low_of};
+ghost use Rattle.joiner.specs.Joined.{unit_part, logic_low as logic_low_of, register_low as register_low_of};
 
 use board::Board;
 use mig_base::{Circuit, Driver, Gives, Part, VarProduct};

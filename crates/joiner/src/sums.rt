@@ -3,7 +3,7 @@ ghost use Rattle.std.specs.Prelude.{◌≡◌, true, IfOk};
 ghost use Rattle.std.specs.List.{list_all};
 ghost use Rattle.bdd.specs.Diagram.{IsValid, IsCanonical, Keeps, IsConjunction, IsDisjunction};
 ghost use Rattle.rails.specs.Variables.{IsFit};
-ghost use Rattle.cones.specs.Joined.{literal_read, terms_read};
+ghost use Rattle.joiner.specs.Joined.{literal_read, terms_read};
 ghost use Rattle.joiner.specs.Pairs.{is_known, lits_known, terms_known, AreProper, Reads};
 
 use crate::pairs::{Pair, pair_of};

@@ -1,5 +1,5 @@
 -- Tests and lists: pieces of one width, what holds at each place, filters of images.
-use Rattle.std.proofs.Common.{ℕ, zero, suc, ◌≡◌, ◌+◌, ◌-◌, ◌*◌, ◌<◌, ◌≤◌, Bool, true, false, not, ◌||◌, ◌&&◌, if◌then◌else◌, filter, reverse, List, [], ◌∷◌, ◌++◌, map, take, drop, length, get_or, refl, sym, ap, ◌∙◌, subst, arith}
+use Rattle.std.proofs.Common.{ℕ, zero, suc, ◌≡◌, ◌+◌, ◌-◌, ◌*◌, ◌<◌, ◌≤◌, Bool, true, false, not, ◌||◌, ◌&&◌, if◌then◌else◌, filter, reverse, List, [], ◌∷◌, ◌++◌, map, take, drop, length, get_or, refl, sym, ap, ◌∙◌, subst, arith, add-zero}
 use Rattle.std.specs.List.{AllByRecursion, flat_map}
 use Rattle.std.proofs.lemmas.List.{append_assoc, take_at, drop_at, drop-drop, drop_more, length-append, length-map}
 use Rattle.mig_base.specs.First.{made_from}
@@ -120,3 +120,26 @@ filter-map f p q (x ∷ xs) h = filter-at f (p (f x)) (q x) h.0 x (filter p (map
 pub filter-none : {A : Type 0} (q : A → Bool) (xs : List A) → AllByRecursion (λ (x : A). q x ≡ false) xs → filter q xs ≡ []
 filter-none q [] h = refl
 filter-none q (x ∷ xs) h = ap (λ (b : Bool). if b then x ∷ filter q xs else filter q xs) h.0 ∙ filter-none q xs h.1
+
+-- lists of numbers made one by one
+
+pub made_from-more : {T : Type 0} (f : ℕ → T) (first n m : ℕ) → m ≡ n + 1 → made_from f first m ≡ made_from f first n ++ f (first + n) ∷ []
+made_from-more f first zero m e = ap (made_from f first) e ∙ ap (λ k. f k ∷ []) (sym (add-zero first))
+made_from-more f first (suc n) m e =
+    let k : m ≡ suc (n + 1) = omega arith in
+    let s : first + 1 + n ≡ first + suc n = omega arith in
+    ap (made_from f first) k ∙ ap (λ rest. f first ∷ rest) (made_from-more f (first + 1) n (n + 1) refl ∙ ap (λ j. made_from f (first + 1) n ++ f j ∷ []) s)
+
+-- one more item of a made list
+pub made-push : {T : Type 0} (f : ℕ → T) (before now done : List T) (n : ℕ) → now ≡ before ++ f n ∷ [] → before ≡ done ++ made_from f 0 n → now ≡ done ++ made_from f 0 (n + 1)
+made-push f before now done n e h =
+    e ∙ ap (λ xs. xs ++ f n ∷ []) h ∙ append_assoc done (made_from f 0 n) (f n ∷ [])
+    ∙ ap (λ xs. done ++ xs) (sym (made_from-more f 0 n (n + 1) refl ∙ ap (λ (k : ℕ). made_from f 0 n ++ f k ∷ []) (omega arith)))
+
+pub or-unit : (b : Bool) → (b || false) ≡ b
+or-unit true = refl
+or-unit false = refl
+
+pub or-certain : (b : Bool) → (b || true) ≡ true
+or-certain true = refl
+or-certain false = refl

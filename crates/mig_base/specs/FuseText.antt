@@ -1,4 +1,4 @@
--- The fuses that a fuse text says (JESD3-C, in the profile of docs/formats.md).
+-- The fuses that a fuse text says (JESD3-C, in the profile of docs/fuse_text.md).
 use Rattle.std.specs.Prelude.{ℕ, ◌≡◌, ◌+◌, ◌-◌, ◌^◌, ◌%◌, Bool, true, false, not, ◌&&◌, ◌||◌, List, [], ◌∷◌, length, take, map, sum, filter, if◌then◌else◌, ◌==◌, nat_le, Option, Some, None, unwrap_or, Result, Ok, slice_get}
 use Rattle.std.specs.List.{list_all, list_any, AllByRecursion}
 use Rattle.std.specs.Option.{option_map}

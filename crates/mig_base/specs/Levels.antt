@@ -85,3 +85,10 @@ level_at levels i = slice_index_or levels i X
 abbrev pub or_x : {T : Type 0} → (T → Level) → Option T → Level
 or_x f None = X
 or_x f (Some t) = f t
+
+-- the character of a level
+abbrev pub level_code : Level → ℕ
+level_code Zero = 48
+level_code One = 49
+level_code Z = 90
+level_code X = 88

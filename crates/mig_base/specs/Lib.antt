@@ -13,6 +13,8 @@ pub mod BoardText
 pub mod WrittenBoard
 pub mod Values
 pub mod Reads
+pub mod Among
+pub mod Ranked
 pub mod Accepted
 pub mod Boards
 pub mod Structure
@@ -20,3 +22,5 @@ pub mod WrittenPlan
 pub mod Limits
 pub mod WellFormed
 pub mod WrittenCells
+pub mod Given
+pub mod Written22

@@ -1,5 +1,5 @@
 -- The reads-from graph: what each net and each visible register reads.
-use Rattle.std.specs.Prelude.{List, [], ◌∷◌, ◌++◌, Option, Some, None, slice_get}
+use Rattle.std.specs.Prelude.{◌<◌, length, List, [], ◌∷◌, ◌++◌, Option, Some, None, slice_get}
 use Rattle.std.specs.List.{flat_map}
 use Rattle.mig_base.specs.declared.circuit.Read.{Read}
 use Rattle.mig_base.specs.declared.circuit.Gives.{Gives}
@@ -42,3 +42,8 @@ node_reads c (OfRegister k) = reads_of_register (slice_get c.registers k)
 -- what a register reads at an edge of its clock
 abbrev pub edge_reads : Register → List Read
 edge_reads r = sum_reads r.terms ++ row_reads r.preset ++ row_reads r.reset
+
+-- a net or a register of the board
+abbrev pub IsNode : Circuit → Read → Type 0
+IsNode c (OfNet n) = n < length c.nets
+IsNode c (OfRegister k) = k < length c.registers

@@ -80,3 +80,15 @@ pub struct Levels {
     pub drives: Items<Level>,
     pub visible: Items<Level>,
 }
+
+/// What the registers of a board store, in register order.
+#[derive(Drop)]
+pub struct State {
+    pub stored: Items<Level>,
+}
+
+/// The levels that a step hands to the Input and Both ports, in board order.
+#[derive(Drop)]
+pub struct Inputs {
+    pub levels: Items<Level>,
+}

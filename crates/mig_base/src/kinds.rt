@@ -1,7 +1,8 @@
-ghost use Rattle.std.specs.Prelude.{◌≡◌, ◌==◌, IsTrue, ◌↔◌};
+ghost use Rattle.std.specs.Prelude.{◌≡◌, ◌==◌, IsTrue, ◌↔◌, Some};
 ghost use Rattle.std.specs.Option.{option_map};
 ghost use Rattle.std.specs.List.{list_any};
-ghost use Rattle.mig_base.specs.DeviceTables.{kind_named, kind_among as kind_in, kind_name, pins_of, cell_pins};
+ghost use Rattle.mig_base.specs.DeviceTables.{kind_named, kind_among as kind_in, kind_name, pins_of, cell_pins, is_22 as is_22v10, enable_pin as enable_pin_of};
+ghost use Rattle.mig_base.specs.declared.kinds.Kind.{Kind as KindOf};
 
 /// The kinds of chips. `Gal22V10Q` is a 22V10 whose registered cells feed Q back on the even column.
 #[derive(Clone, Copy, Debug, PartialEq, Eq)]
@@ -28,6 +29,9 @@ pub enum Mode {
     Complex,
     Registered,
 }
+
+/// The pin that clocks the registered cells of every kind.
+pub const CLOCK_PIN: u8 = 1;
 
 /// The twelve kinds.
 const KINDS: [Kind; 12] = [
@@ -93,6 +97,28 @@ pub fn pins(k: Kind) -> u8
         _ => 24,
     }
 }
+
+/// Whether a kind is a 22V10.
+pub fn is_22(k: Kind) -> bool
+    ensures { result ≡ is_22v10 k }
+{
+    matches!(k, Kind::Gal22V10 | Kind::Gal22V10Q)
+}
+
+/// The low-active enable pin of the registered cells of a kind, but for a 22V10.
+pub fn enable_pin(k: Kind) -> u8
+    ensures { result ≡ enable_pin_of k }
+{
+    match pins(k) {
+        20 => 11,
+        _ => 13,
+    }
+}
+
+/// The name of each kind names that kind.
+pub fn kinds_are_named()
+    ensures { (k : KindOf) → kind_named (kind_name k) ≡ Some k }
+{}
 
 /// Whether the pin of a kind is that of a macrocell.
 pub fn is_cell(k: Kind, pin: u8) -> bool

@@ -1,4 +1,6 @@
-use crate::{Items, Kind, Name};
+ghost use Rattle.std.specs.Prelude.{◌≡◌};
+
+use crate::{Items, Kind, Name, NoMemory};
 
 /// The direction of a net.
 #[derive(Clone, Copy, PartialEq, Eq)]
@@ -83,6 +85,26 @@ pub enum Node {
 pub struct PinName {
     pub chip: Name,
     pub pin: u8,
+}
+
+/// Why a wiring and chips make no board: the first Input port or constant with a driver, the chip of the first register whose
+/// clock net is neither of these, the first loop of nodes that read one another, or want of memory.
+#[derive(Drop)]
+pub enum BoardError {
+    InDriven { net: Node },
+    DerivedClock { chip: Name },
+    Loop { cycle: Items<Node> },
+    Memory,
+}
+
+impl From<NoMemory> for BoardError {
+    ghost use Rattle.mig_base.specs.declared.nets.BoardError.TheVariants.{Memory};
+
+    ghost from_gives = { λ _ e. e ≡ Memory };
+
+    fn from(_: NoMemory) -> Self {
+        BoardError::Memory
+    }
 }
 
 /// Why a board text was refused, with the number of the line, from 1.

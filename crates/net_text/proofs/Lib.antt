@@ -3,3 +3,10 @@ pub mod Lookups
 pub mod Refusals
 pub mod Wirings
 pub mod Wholes
+pub mod BoardSays
+pub mod BoardParts
+pub mod BoardPasses
+pub mod BoardKept
+pub mod BoardGiven
+pub mod BoardReadBack
+pub mod WrittenLength

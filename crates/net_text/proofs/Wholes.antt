@@ -14,7 +14,7 @@ use Rattle.mig_base.specs.declared.nets.NetError.TheVariants.{NoEnd}
 use Rattle.mig_base.specs.DeviceTables.{is_ordinary}
 use Rattle.mig_base.specs.First.{or_else, first_refusal, unless}
 use Rattle.mig_base.specs.BoardText.{Says, SaidLine, said_lines, all_said, ends, refuse, line_refusal, text_refusal, nets_in, chips_in, net_said, chip_said, net_names, names_of_nets, net_at, net_in, net_of_text}
-use Rattle.mig_base.proofs.BoardKept.{Keeps, lines-keep}
+use Rattle.net_text.proofs.BoardKept.{Keeps, lines-keep}
 use Rattle.net_text.specs.declared.lines.BoardLine.{BoardLine}
 use Rattle.net_text.specs.Statements.{says_of, line_of, all_says}
 use Rattle.net_text.proofs.Refusals.{said-of, ends-of}

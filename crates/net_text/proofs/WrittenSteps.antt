@@ -16,7 +16,7 @@ use Rattle.mig_base.specs.declared.nets.PinLine.{PinLine}
 use Rattle.mig_base.specs.declared.nets.Pull.{Pull}
 use Rattle.mig_base.specs.declared.nets.Pull.TheVariants.{Free, Up, Down}
 use Rattle.mig_base.specs.WrittenBoard.{written_line, pull_line, pull_line_at, pin_line, chip_name, net_name, IsWritable}
-use Rattle.mig_base.proofs.BoardSays.{IsWired, pins-wired, chip-name-is}
+use Rattle.net_text.proofs.BoardSays.{IsWired, pins-wired, chip-name-is}
 
 -- one more pulled net, or one that isn't
 pub pulls-more : (lines : List NetLine) (i : ℕ) (d : NetLine) → i < length lines →

@@ -1,7 +1,7 @@
 -- Items of lists: what is among a list that is filtered, mapped, joined or searched.
 use Rattle.std.proofs.Common.{ℕ, zero, suc, ◌≡◌, Bool, true, false, cond, ◌&&◌, ◌||◌, List, [], ◌∷◌, ◌++◌, map, Option, Some, None, refl, sym, ap, ◌∙◌, subst, inl, inr, ◌⊎◌}
 use Rattle.std.specs.List.{filter, list_any, list_all, AllByRecursion, slice_get, flat_map, filter_map, cons_option}
-use Rattle.mig_base.specs.Accepted.{Among}
+use Rattle.mig_base.specs.Among.{Among}
 
 pub among-or_less : {T : Type 0} (q : Bool) (x y : T) (ys : List T) → Among x ys → Among x (cond q (y ∷ ys) ys)
 among-or_less true x y ys a = inr a

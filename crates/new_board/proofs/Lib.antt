@@ -1,3 +1,16 @@
 pub mod Items
 pub mod Products
 pub mod Variables
+pub mod Columns
+pub mod Taking
+pub mod Reading
+pub mod Serving
+pub mod BuiltRows
+pub mod Wiring
+pub mod KeptNets
+pub mod NewWiring
+pub mod KeptNumbers
+pub mod BuiltNets
+pub mod WellMade
+pub mod OldPins
+pub mod EnablePins

@@ -7,7 +7,7 @@ use Rattle.mig_base.specs.declared.circuit.Literal.{Literal}
 use Rattle.mig_base.specs.declared.circuit.Levels.{Levels}
 use Rattle.mig_base.specs.Levels.{and3}
 use Rattle.mig_base.specs.Values.{literal_value, product_value}
-use Rattle.mig_base.specs.Accepted.{Among}
+use Rattle.mig_base.specs.Among.{Among}
 use Rattle.new_board.proofs.Items.{any-among, among-any, all-pass, pass-all}
 
 abbrev is_zero : Level → Bool

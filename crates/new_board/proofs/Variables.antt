@@ -11,7 +11,7 @@ use Rattle.mig_base.specs.declared.circuit.Circuit.{Circuit}
 use Rattle.mig_base.specs.First.{made_from}
 use Rattle.mig_base.specs.Levels.{not3, level_at}
 use Rattle.mig_base.specs.Values.{literal_value, product_value, source_level}
-use Rattle.mig_base.specs.Accepted.{Among}
+use Rattle.mig_base.specs.Among.{Among}
 use Rattle.mig_base.specs.Bools.{same_bool}
 use Rattle.mig_base.specs.Structure.{same_read, same_literal, alias_of, or_alias, variable_by, variable_literal, variable_product, all_variables, both_literals}
 use Rattle.new_board.proofs.Items.{among-filter, among-unfilter, among-map, among-unmap, among-left, among-right, any-among, among-any, among-flat_map}

@@ -1,5 +1,5 @@
--- A new chip with its units: the net that each pin stands on, and what each column reads.
-use Rattle.std.specs.Prelude.{ℕ, ◌+◌, Bool, true, false, not, ◌&&◌, ◌==◌, List, [], ◌∷◌, ◌++◌, length, map, filter, if◌then◌else◌, Option, Some, None, is_some, slice_get, option_and_then}
+-- A new chip with its units and their rows over variables: the net that each pin stands on, and what each column reads.
+use Rattle.std.specs.Prelude.{ℕ, ◌+◌, Bool, true, false, not, ◌&&◌, ◌||◌, ◌==◌, nat_lt, List, [], ◌∷◌, ◌++◌, length, filter, if◌then◌else◌, Option, Some, None, is_some, slice_get, option_and_then}
 use Rattle.std.specs.List.{list_any, flat_map}
 use Rattle.std.specs.Option.{option_map}
 use Rattle.mig_base.specs.declared.kinds.Kind.{Kind}
@@ -10,16 +10,17 @@ use Rattle.mig_base.specs.declared.circuit.Literal.{Literal}
 use Rattle.mig_base.specs.declared.circuit.Gate.{Gate}
 use Rattle.mig_base.specs.declared.circuit.Gives.{Gives}
 use Rattle.mig_base.specs.declared.circuit.Driver.{Driver}
-use Rattle.mig_base.specs.declared.circuit.Register.{Register}
+use Rattle.mig_base.specs.declared.circuit.Wire.{Wire}
 use Rattle.mig_base.specs.declared.circuit.Circuit.{Circuit}
 use Rattle.mig_base.specs.declared.circuit.Read.TheVariants.{OfNet, OfRegister}
 use Rattle.mig_base.specs.declared.circuit.Gate.TheVariants.{Never, Product}
 use Rattle.mig_base.specs.declared.circuit.Gives.TheVariants.{Sum, Visible}
+use Rattle.new_board.specs.declared.types.PlacedUnit.{PlacedUnit}
 use Rattle.mig_base.specs.First.{made_from}
 use Rattle.mig_base.specs.DeviceTables.{pair_pins, clock_pin, enable_pin, is_22, is_v8}
 use Rattle.mig_base.specs.Boards.{ChipUnit, at_of, net_of}
 use Rattle.mig_base.specs.Bools.{same_bool}
-use Rattle.mig_base.specs.Structure.{same_read, alias_of, variable_literal, variable_product, variable_gate, variables_in}
+use Rattle.mig_base.specs.Structure.{same_read, alias_of, variable_literal, variables_in}
 
 -- the board that is rebuilt: its wiring, its units, and its equations
 pub record OldBoard : Type 0 where
@@ -27,22 +28,24 @@ pub record OldBoard : Type 0 where
   pub units : List ChipUnit
   pub circuit : Circuit
 
--- a new chip; its units by their pins there and their numbers, in unit order
+-- a new chip; its units in unit order
 pub record NewChip : Type 0 where
   pub name : List ℕ
   pub kind : Kind
   pub mode : Mode
-  pub units : List (ℕ × ℕ)
+  pub units : List PlacedUnit
 
 -- the unit on a pin
-abbrev pub unit_on : List (ℕ × ℕ) → ℕ → Option ℕ
+abbrev pub unit_on : List PlacedUnit → ℕ → Option PlacedUnit
 unit_on [] pin = None
-unit_on (x ∷ xs) pin = if x.0 == pin then Some x.1 else unit_on xs pin
+unit_on (x ∷ xs) pin = if x.pin == pin then Some x else unit_on xs pin
 
+-- the register whose visible level a unit gives
 abbrev pub register_given : Gives → Option ℕ
 register_given (Sum terms) = None
 register_given (Visible k) = Some k
 
+-- the register of what drives, if it drives one
 abbrev pub register_driven : Option Driver → Option ℕ
 register_driven None = None
 register_driven (Some d) = register_given d.gives
@@ -51,40 +54,58 @@ register_driven (Some d) = register_given d.gives
 abbrev pub unit_register : Circuit → ℕ → Option ℕ
 unit_register c u = register_driven (slice_get c.units u)
 
+-- the number of the register of a placed unit
+abbrev pub placed_register : Circuit → PlacedUnit → Option ℕ
+placed_register c x = unit_register c x.unit
+
+-- whether a placed unit has a register
+abbrev pub is_registered_unit : Circuit → PlacedUnit → Bool
+is_registered_unit c x = is_some (placed_register c x)
+
 -- the number of the register on a pin
 abbrev pub register_on : Circuit → NewChip → ℕ → Option ℕ
-register_on c chip pin = option_and_then (unit_register c) (unit_on chip.units pin)
+register_on c chip pin = option_and_then (placed_register c) (unit_on chip.units pin)
 
+-- the first item of a list
 abbrev pub first_of : {T : Type 0} → List T → Option T
 first_of [] = None
 first_of (x ∷ xs) = Some x
 
-abbrev pub is_registered_unit : Circuit → ℕ × ℕ → Bool
-is_registered_unit c x = is_some (unit_register c x.1)
-
 -- the first registered unit of the chip
-abbrev pub first_registered : Circuit → NewChip → Option ℕ
-first_registered c chip = option_map (λ x. x.1) (first_of (filter (is_registered_unit c) chip.units))
+abbrev pub first_registered : Circuit → NewChip → Option PlacedUnit
+first_registered c chip = first_of (filter (is_registered_unit c) chip.units)
 
--- the register of that unit
-abbrev pub first_register : Circuit → NewChip → Option Register
-first_register c chip = option_and_then (slice_get c.registers) (option_and_then (unit_register c) (first_registered c chip))
+-- the clock net of a unit's register
+abbrev pub placed_clock : Circuit → PlacedUnit → Option ℕ
+placed_clock c x = option_map (λ r. r.clock) (option_and_then (slice_get c.registers) (placed_register c x))
 
 -- the net of the clock pin, where the chip has registered units
 abbrev pub clock_net : Circuit → NewChip → Option ℕ
-clock_net c chip = option_map (λ r. r.clock) (first_register c chip)
-
-abbrev pub driver_enable : Option Driver → Gate
-driver_enable None = Never
-driver_enable (Some d) = d.enable
-
-abbrev pub unit_enable : Circuit → ℕ → Gate
-unit_enable c u = variable_gate c (driver_enable (slice_get c.units u))
+clock_net c chip = option_and_then (placed_clock c) (first_registered c chip)
 
 -- GND, VCC and the named nets have numbers below this one
 abbrev pub private_from : Net → ℕ
 private_from net = 2 + length net.nets
 
+-- a wire that is there and has no driver
+abbrev pub has_no_driver : Option Wire → Bool
+has_no_driver None = false
+has_no_driver (Some w) = length w.drivers == 0
+
+-- the first of two values that is there
+abbrev pub or_option : {T : Type 0} → Option T → Option T → Option T
+or_option None other = other
+or_option (Some x) other = Some x
+
+-- a value, where the test passes
+abbrev pub when : {T : Type 0} → Bool → Option T → Option T
+when test value = if test then value else None
+
+-- a net that an input pin or an enable pin can stand on: a constant, a named net, a private net without driver
+abbrev pub can_stand : OldBoard → ℕ → Bool
+can_stand b n = nat_lt n (private_from b.net) || has_no_driver (slice_get b.circuit.nets n)
+
+-- whether an alias is one of this register
 abbrev pub is_register_of : ℕ → Option (ℕ × Bool) → Bool
 is_register_of k None = false
 is_register_of k (Some a) = a.0 == k
@@ -97,21 +118,24 @@ alias_net b k = first_of (filter (λ n. is_register_of k (alias_of b.circuit n))
 abbrev pub net_literal : Circuit → ℕ → Literal
 net_literal c n = variable_literal c (record { source = OfNet n; high = true })
 
--- the enable pin of registered units on a V8: GND where they are always enabled, VCC where never,
--- else the net of whose level their one literal is the complement
+-- whether two literals are of one variable, and one is the complement of the other
 abbrev pub is_complement_of : Literal → Literal → Bool
 is_complement_of x y = same_read x.source y.source && same_bool x.high (not y.high)
 
+-- the net of whose level a literal is the complement
 abbrev pub net_of_complement : OldBoard → Read → Literal → Option ℕ
-net_of_complement b (OfNet n) x = if x.high then None else Some n
-net_of_complement b (OfRegister k) x = option_and_then (λ n. if is_complement_of x (net_literal b.circuit n) then Some n else None) (alias_net b k)
+net_of_complement b (OfNet n) x = when (not x.high && can_stand b n) (Some n)
+net_of_complement b (OfRegister k) x = option_and_then (λ n. when (is_complement_of x (net_literal b.circuit n)) (Some n)) (alias_net b k)
 
+-- the enable pin of registered units on a V8: GND where they are always enabled, VCC where never,
+-- else the net of whose level their one literal is the complement
 abbrev pub enable_net : OldBoard → Gate → Option ℕ
 enable_net b Never = Some 1
 enable_net b (Product []) = Some 0
 enable_net b (Product (x ∷ [])) = net_of_complement b x.source x
 enable_net b (Product (x ∷ y ∷ more)) = None
 
+-- the net of the pin of a unit that is there
 abbrev pub unit_net_of : OldBoard → Option ChipUnit → Option ℕ
 unit_net_of b None = None
 unit_net_of b (Some u) = Some (net_of b.net (at_of u))
@@ -120,19 +144,12 @@ unit_net_of b (Some u) = Some (net_of b.net (at_of u))
 abbrev pub unit_net : OldBoard → ℕ → Option ℕ
 unit_net b u = unit_net_of b (slice_get b.units u)
 
-abbrev pub or_option : {T : Type 0} → Option T → Option T → Option T
-or_option None other = other
-or_option (Some x) other = Some x
-
-abbrev pub when : {T : Type 0} → Bool → Option T → Option T
-when test value = if test then value else None
-
 -- the net that a pin stands on, but for input pins: that of its unit, of the clock, of the enable pin
 abbrev pub fixed_net : OldBoard → NewChip → ℕ → Option ℕ
 fixed_net b chip pin =
-    or_option (option_and_then (unit_net b) (unit_on chip.units pin))
+    or_option (option_and_then (λ x. unit_net b x.unit) (unit_on chip.units pin))
     (or_option (when (pin == clock_pin chip.kind) (clock_net b.circuit chip))
-    (when (is_v8 chip.kind && (pin == enable_pin chip.kind)) (option_and_then (λ u. enable_net b (unit_enable b.circuit u)) (first_registered b.circuit chip))))
+    (when (is_v8 chip.kind && (pin == enable_pin chip.kind)) (option_and_then (λ x. enable_net b x.enable) (first_registered b.circuit chip))))
 
 -- what the columns of a pin read: the register of its unit, or the level of the pin's net
 abbrev pub read_by : Circuit → Option ℕ → Option ℕ → Option Literal
@@ -140,6 +157,7 @@ read_by c (Some k) net = Some (record { source = OfRegister k; high = true })
 read_by c None None = None
 read_by c None (Some n) = Some (net_literal c n)
 
+-- whether what is read is a literal of the variable
 abbrev pub is_literal_of : Read → Option Literal → Bool
 is_literal_of v None = false
 is_literal_of v (Some x) = same_read x.source v
@@ -148,43 +166,43 @@ is_literal_of v (Some x) = same_read x.source v
 abbrev pub is_read_at : OldBoard → NewChip → Read → ℕ → Bool
 is_read_at b chip v pin = is_literal_of v (read_by b.circuit (register_on b.circuit chip pin) (fixed_net b chip pin))
 
+-- whether a column of the chip reads a variable, but for input pins
 abbrev pub is_read : OldBoard → NewChip → Read → Bool
 is_read b chip v = list_any (is_read_at b chip v) (pair_pins chip.kind chip.mode)
 
 -- the rows of the new chip over variables
 
+-- the products of a row: one, or none where it is constant 0
 abbrev pub gate_products : Gate → List (List Literal)
 gate_products Never = []
 gate_products (Product lits) = lits ∷ []
 
-abbrev pub terms_over : Circuit → List (List Literal) → List (List Literal)
-terms_over c terms = map (variable_product c) terms
-
+-- a combinational unit that is never enabled has an Idle cell and no rows
 abbrev pub comb_products : Gate → List (List Literal) → List (List Literal)
 comb_products Never terms = []
 comb_products (Product lits) terms = lits ∷ terms
 
-abbrev pub register_terms : Circuit → Option Register → List (List Literal)
-register_terms c None = []
-register_terms c (Some r) = terms_over c r.terms
+-- a combinational unit has its enable row and its terms, a registered one on a 22V10 too; on a V8 its terms alone
+abbrev pub products_by : Bool → Option ℕ → PlacedUnit → List (List Literal)
+products_by enabled_by_row None x = comb_products x.enable x.terms
+products_by enabled_by_row (Some k) x = x.terms ++ (if enabled_by_row then gate_products x.enable else [])
 
--- a combinational unit has its terms and its enable row, a registered one on a 22V10 too; on a V8 its terms alone
-abbrev pub products_given : Circuit → Bool → Gate → Gives → List (List Literal)
-products_given c enabled_by_row gate (Sum terms) = comb_products gate (terms_over c terms)
-products_given c enabled_by_row gate (Visible k) = register_terms c (slice_get c.registers k) ++ (if enabled_by_row then gate_products gate else [])
+-- the rows of a unit on its chip
+abbrev pub unit_products : Circuit → NewChip → PlacedUnit → List (List Literal)
+unit_products c chip x = products_by (is_22 chip.kind) (placed_register c x) x
 
-abbrev pub driver_products : Circuit → Bool → Option Driver → List (List Literal)
-driver_products c enabled_by_row None = []
-driver_products c enabled_by_row (Some d) = products_given c enabled_by_row (variable_gate c d.enable) d.gives
+-- the reset and preset rows of a unit that is there
+abbrev pub controls_of : Option PlacedUnit → List (List Literal)
+controls_of None = []
+controls_of (Some x) = gate_products x.reset ++ gate_products x.preset
 
-abbrev pub reset_products : Circuit → Option Register → List (List Literal)
-reset_products c None = []
-reset_products c (Some r) = gate_products (variable_gate c r.reset) ++ gate_products (variable_gate c r.preset)
+-- the reset and preset rows, which a 22V10 alone has: those of its first registered unit
+abbrev pub control_products : Circuit → NewChip → List (List Literal)
+control_products c chip = if is_22 chip.kind then controls_of (first_registered c chip) else []
 
+-- the rows of all units of the chip, and its reset and preset rows
 abbrev pub chip_products : Circuit → NewChip → List (List Literal)
-chip_products c chip =
-    flat_map (λ x. driver_products c (is_22 chip.kind) (slice_get c.units x.1)) chip.units
-    ++ (if is_22 chip.kind then reset_products c (first_register c chip) else [])
+chip_products c chip = flat_map (unit_products c chip) chip.units ++ control_products c chip
 
 -- the variables that stand in them, in variable order
 abbrev pub needed_variables : Circuit → NewChip → List Read

@@ -3,4 +3,4 @@
 
 mod types;
 
-pub use types::{FittedChip, PinNet, Rebuilt};
+pub use types::{FittedChip, PinNet, PlacedUnit, Rebuilt};

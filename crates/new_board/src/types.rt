@@ -1,4 +1,17 @@
-use mig_base::{ChipCells, Items, Name, Net, Plan};
+use mig_base::{ChipCells, Gate, Items, Literal, Name, Net, Plan};
+
+/// A unit on a new chip: its pin there, its number, and its rows over variables. `low` inverts the sum, of a registered
+/// unit before D.
+#[derive(Drop)]
+pub struct PlacedUnit {
+    pub pin: u8,
+    pub unit: u32,
+    pub low: bool,
+    pub terms: Items<Items<Literal>>,
+    pub enable: Gate,
+    pub reset: Gate,
+    pub preset: Gate,
+}
 
 /// A pin of a new chip on a net of the old board, by its number.
 #[derive(Clone, Copy)]

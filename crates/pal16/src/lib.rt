@@ -6,9 +6,8 @@ ghost use Rattle.mig_base.specs.DeviceTables.{is_pal, is_pal16};
 ghost use Rattle.mig_base.specs.Cells.{cells_of, AnswersCells};
 
 mod macrocells;
-mod tables;
 
-use array_rows::width;
+use devices::array_size;
 use mig_base::{ChipCells, ChipError, Fuses, Items, Kind, Mode, Row};
 use std::alloc::Global;
 
@@ -28,7 +27,7 @@ pub fn pal_cells(alloc: Global, kind: Kind, fuses: &Fuses) -> Result<ChipCells, 
     ensures { AnswersCells result (cells_of kind fuses.now.bits) }
 {
     let bits = fuses.bits.items();
-    if bits.len() != tables::ROWS * width(kind) {
+    if bits.len() != array_size(kind) {
         return Err(ChipError::Count {
             found: bits.len() as u32,
         });

@@ -3,16 +3,15 @@ ghost use Rattle.mig_base.specs.declared.kinds.Mode.TheVariants.{Fixed};
 ghost use Rattle.mig_base.specs.DeviceTables as device;
 ghost use Rattle.mig_base.specs.Cells.{columns_of as columns_in, pal_cell};
 
-use crate::tables;
-use array_rows::{columns_of, combinational, enable_pin, registered, rows, top_pin};
-use mig_base::{Cell, Kind, Lit, Mode, NoMemory};
+use devices::{CELL_ROWS, columns_of, combinational, pal_registers, registered, rows, top_pin};
+use mig_base::{Cell, Kind, Lit, Mode, NoMemory, enable_pin};
 use std::alloc::Global;
 
 /// What the columns of a PAL read.
 fn pal_columns(alloc: Global, kind: Kind) -> Result<Vec<Lit>, NoMemory>
     ensures { IfOk result (λ columns. columns.items ≡ columns_in kind Fixed (device.pal_registers kind)) }
 {
-    columns_of(alloc, kind, Mode::Fixed, tables::registers(kind))
+    columns_of(alloc, kind, Mode::Fixed, pal_registers(kind))
 }
 
 /// The macrocell of a pin.
@@ -30,9 +29,9 @@ fn cell(
     ensures { IfOk result (λ cell. cell ≡ pal_cell kind fuses.now pin) }
 {
     let place = (top_pin(kind) - pin) as usize;
-    let first = tables::CELL_ROWS * place;
-    let rows = rows(alloc, columns, fuses, first, tables::CELL_ROWS)?;
-    if tables::registers(kind).contains(&pin) {
+    let first = CELL_ROWS * place;
+    let rows = rows(alloc, columns, fuses, first, CELL_ROWS)?;
+    if pal_registers(kind).contains(&pin) {
         registered(alloc, pin, false, enable_pin(kind), rows)
     } else {
         combinational(alloc, pin, true, rows)

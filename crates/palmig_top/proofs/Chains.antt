@@ -1,143 +1,117 @@
 -- Steps one behind another.
-use Rattle.std.proofs.Common.{ℕ, ◌≡◌, ◌≤◌, List, Option, Some, None, Result, Ok, Err, ap, ◌∙◌, subst, arith}
-use Rattle.std.specs.Prelude.{IfSome, IfErr}
+use Rattle.std.proofs.Common.{ℕ, ◌≡◌, ◌≤◌, List, Option, Some, None, Result, Ok, Err, refl, ap, ◌∙◌, subst, sym, inl, inr, arith}
+use Rattle.std.specs.Prelude.{IfSome}
 use Rattle.mig_io.specs.Counts.{Counts, NoneFell, Rose}
 use Rattle.mig_io.specs.Holding.{Held}
 use Rattle.answers.specs.declared.exit.Exit.{Exit}
-use Rattle.answers.specs.declared.exit.Exit.TheVariants.{Done, Usage, Refused, Missing, ReadFault, SaveFault, OutFault, Memory}
-use Rattle.palmig_top.specs.Verdict.{◌>>=◌}
-use Rattle.palmig_top.specs.Answer.{IsCaused}
-use Rattle.palmig_top.specs.Steps.{StepGives, Gives, Fails, IsLoadFailure, Says}
+use Rattle.answers.specs.declared.exit.Exit.TheVariants.{Memory}
+use Rattle.answers.specs.Exits.{Class, class_of}
+use Rattle.answers.specs.Exits.Class.{Worded, Judged, Missed, Unread, Unsaved, Unsent, Wanting}
+use Rattle.verdicts.specs.Outcomes.{◌>>=◌, Then}
+use Rattle.palmig_top.specs.Steps.{Step, Gives, FailsAs, Finds, RefusesAs}
 
 pub fell-on : (a b c : Counts) → NoneFell a b → NoneFell b c → NoneFell a c
 fell-on a b c p q = record { read_faults = omega arith; save_faults = omega arith; misses = omega arith }
 
+pub none-fell : (a : Counts) → NoneFell a a
+none-fell a = record { read_faults = omega arith; save_faults = omega arith; misses = omega arith }
+
 pub rose-before : (a b c : ℕ) → a ≤ b → Rose b c → Rose a c
 rose-before a b c p q = omega arith
 
-rose-after : (a b c : ℕ) → Rose a b → b ≤ c → Rose a c
-rose-after a b c p q = omega arith
+-- where files are told
 
--- a cause in the second part of a call is one in the whole
-pub caused-later : (a b c : Counts) (e : Exit) → NoneFell a b → IsCaused b c e → IsCaused a c e
-caused-later a b c (Missing f) p q = rose-before a.misses b.misses c.misses p.misses q
-caused-later a b c (ReadFault f) p q = rose-before a.read_faults b.read_faults c.read_faults p.read_faults q
-caused-later a b c (SaveFault f) p q = rose-before a.save_faults b.save_faults c.save_faults p.save_faults q
-caused-later a b c Done p q = tt
-caused-later a b c Usage p q = tt
-caused-later a b c (Refused r) p q = tt
-caused-later a b c OutFault p q = tt
-caused-later a b c Memory p q = tt
+pub always : (P : Held → Type 0) (o : Option Held) → ((h : Held) → P h) → IfSome o P
+always P None f = tt
+always P (Some h) f = f h
 
--- a failure of the first step is one of both
-fails-first : {Y Z : Type 0} (judge : Held → Result Y Exit) (next : Held → Y → Result Z Exit) (first both : Held → List ℕ → Type 0) (h : Held) (e : Exit) →
-    ((f : List ℕ) → first h f → both h f) → Fails judge first h e → Fails (λ k. judge k >>= next k) both h e
-fails-first judge next first both h (ReadFault f) widen p = widen f p
-fails-first judge next first both h (Missing f) widen p = ap (λ (q : Result _ Exit). q >>= next h) p
-fails-first judge next first both h (Refused r) widen p = ap (λ (q : Result _ Exit). q >>= next h) p
-fails-first judge next first both h Memory widen p = tt
-fails-first judge next first both h Done widen p = p
-fails-first judge next first both h Usage widen p = p
-fails-first judge next first both h (SaveFault f) widen p = p
-fails-first judge next first both h OutFault widen p = p
+pub some-map : (P Q : Held → Type 0) (o : Option Held) → ((h : Held) → P h → Q h) → IfSome o P → IfSome o Q
+some-map P Q None f p = tt
+some-map P Q (Some h) f p = f h p
 
-pub first-failed : {X Y Z W : Type 0} (view : X → Y) (last : W → Z) (judge : Held → Result Y Exit) (next : Held → Y → Result Z Exit) (first both : Held → List ℕ → Type 0)
-    (held after : Option Held) (before now : Counts) (e : Exit) →
-    ((h : Held) (f : List ℕ) → first h f → both h f) →
-    StepGives view judge first held after before now (Err e) → StepGives last (λ k. judge k >>= next k) both held after before now (Err e)
-first-failed view last judge next first both held after before now e widen p = record {
+pub some-both : (P Q R : Held → Type 0) (o : Option Held) → ((h : Held) → P h → Q h → R h) → IfSome o P → IfSome o Q → IfSome o R
+some-both P Q R None f p q = tt
+some-both P Q R (Some h) f p q = f h p q
+
+-- a failure of one step is one of another, where its refusals are this one's and so are its files
+pub fails-on : {Y Z : Type 0} (c : Class) (judge : Held → Result Y Exit → Type 0) (whole : Held → Result Z Exit → Type 0) (loads all : Held → List ℕ → Type 0)
+    (held : Option Held) (start before now : Counts) (e : Exit) → NoneFell start before → IfSome held (λ h. judge h (Err e) → whole h (Err e)) → IfSome held (λ h. (f : List ℕ) → loads h f → all h f) →
+    FailsAs c judge loads held before now e → FailsAs c whole all held start now e
+fails-on Judged judge whole loads all held start before now e fell told widen p =
+    (p.0, some-both (λ h. judge h (Err e) → whole h (Err e)) (λ h. judge h (Err e)) (λ h. whole h (Err e)) held (λ h f q. f q) told p.1)
+fails-on (Missed f) judge whole loads all held start before now e fell told widen p = (
+  rose-before start.misses before.misses now.misses fell.misses p.0,
+  some-both (λ h. judge h (Err e) → whole h (Err e)) (λ h. judge h (Err e)) (λ h. whole h (Err e)) held (λ h f q. f q) told p.1,
+)
+fails-on (Unread f) judge whole loads all held start before now e fell told widen p = (
+  rose-before start.read_faults before.read_faults now.read_faults fell.read_faults p.0,
+  some-both (λ h. (g : List ℕ) → loads h g → all h g) (λ h. loads h f) (λ h. all h f) held (λ h g q. g f q) widen p.1,
+)
+fails-on Wanting judge whole loads all held start before now e fell told widen p = tt
+fails-on Worded judge whole loads all held start before now e fell told widen p = p
+fails-on (Unsaved f) judge whole loads all held start before now e fell told widen p = p
+fails-on Unsent judge whole loads all held start before now e fell told widen p = p
+
+-- the first step failed, and so did both
+pub broken : {X Y Z W : Type 0} (view : X → Y) (last : W → Z) (judge : Held → Result Y Exit → Type 0) (next : Held → Y → Result Z Exit → Type 0) (whole : Held → Result Z Exit → Type 0) (first both : Held → List ℕ → Type 0)
+    (held after : Option Held) (before now : Counts) (e : Exit) → ((h : Held) (q : Result Z Exit) → Then (judge h) (next h) q → whole h q) → ((h : Held) (f : List ℕ) → first h f → both h f) →
+    Step view judge first held after before now (Err e) → Step last whole both held after before now (Err e)
+broken view last judge next whole first both held after before now e rule widen p = record {
   same = p.same;
   later = p.later;
-  caused = p.caused;
-  failure = p.failure;
-  gives = at held p.gives;
+  gives = fails-on (class_of e) judge whole first both held before before now e (none-fell before)
+      (always (λ h. judge h (Err e) → whole h (Err e)) held (λ h j. rule h (Err e) (inr (e, j, refl)))) (always (λ h. (f : List ℕ) → first h f → both h f) held widen) p.gives;
 }
-  where
-    at : (o : Option Held) → IfSome o (λ h. Fails judge first h e) → IfSome o (λ h. Fails (λ k. judge k >>= next k) both h e)
-    at None q = tt
-    at (Some h) q = fails-first judge next first both h e (widen h) q
 
--- what the second step gives
-gives-second : {X Y Z W : Type 0} (view : X → Y) (last : W → Z) (judge : Held → Result Y Exit) (next : Held → Y → Result Z Exit) (second both : Held → List ℕ → Type 0)
-    (h : Held) (x : X) (r : Result W Exit) → judge h ≡ Ok (view x) → ((f : List ℕ) → second h f → both h f) →
-    Gives last (λ k. next k (view x)) second h r → Gives last (λ k. judge k >>= next k) both h r
-gives-second view last judge next second both h x (Ok w) e widen p = ap (λ (q : Result _ Exit). q >>= next h) e ∙ p
-gives-second view last judge next second both h x (Err (ReadFault f)) e widen p = widen f p
-gives-second view last judge next second both h x (Err (Missing f)) e widen p = ap (λ (q : Result _ Exit). q >>= next h) e ∙ p
-gives-second view last judge next second both h x (Err (Refused r)) e widen p = ap (λ (q : Result _ Exit). q >>= next h) e ∙ p
-gives-second view last judge next second both h x (Err Memory) e widen p = tt
-gives-second view last judge next second both h x (Err Done) e widen p = p
-gives-second view last judge next second both h x (Err Usage) e widen p = p
-gives-second view last judge next second both h x (Err (SaveFault f)) e widen p = p
-gives-second view last judge next second both h x (Err OutFault) e widen p = p
-
-pub caused-in : {W : Type 0} (a b c : Counts) (r : Result W Exit) → NoneFell a b → IfErr r (λ e. IsCaused b c e) → IfErr r (λ e. IsCaused a c e)
-caused-in a b c (Ok w) p q = tt
-caused-in a b c (Err e) p q = caused-later a b c e p q
-
-pub second-step : {X Y Z W : Type 0} (view : X → Y) (last : W → Z) (judge : Held → Result Y Exit) (next : Held → Y → Result Z Exit) (first second both : Held → List ℕ → Type 0)
-    (held mid after : Option Held) (before between now : Counts) (x : X) (r : Result W Exit) →
-    ((h : Held) (f : List ℕ) → judge h ≡ Ok (view x) → second h f → both h f) →
-    StepGives view judge first held mid before between (Ok x) → StepGives last (λ k. next k (view x)) second mid after between now r →
-    StepGives last (λ k. judge k >>= next k) both held after before now r
-second-step view last judge next first second both held mid after before between now x r widen p q = record {
+-- the second step, behind a first one that went well
+pub chained : {X Y Z W : Type 0} (view : X → Y) (last : W → Z) (judge : Held → Result Y Exit → Type 0) (next : Held → Y → Result Z Exit → Type 0) (whole : Held → Result Z Exit → Type 0) (first second both : Held → List ℕ → Type 0)
+    (held mid after : Option Held) (before between now : Counts) (x : X) (r : Result W Exit) → ((h : Held) (q : Result Z Exit) → Then (judge h) (next h) q → whole h q) →
+    ((h : Held) (f : List ℕ) → judge h (Ok (view x)) → second h f → both h f) →
+    Step view judge first held mid before between (Ok x) → Step last (λ h. next h (view x)) second mid after between now r → Step last whole both held after before now r
+chained view last judge next whole first second both held mid after before between now x r rule widen p q = record {
   same = q.same ∙ p.same;
   later = fell-on before between now p.later q.later;
-  caused = caused-in before between now r p.later q.caused;
-  failure = q.failure;
-  gives = at held p.gives (subst (λ (o : Option Held). IfSome o (λ h. Gives last (λ k. next k (view x)) second h r)) p.same q.gives);
+  gives = at r (subst (λ (o : Option Held). Gives last (λ h. next h (view x)) second o between now r) p.same q.gives);
 }
   where
-    at : (o : Option Held) → IfSome o (λ h. judge h ≡ Ok (view x)) → IfSome o (λ h. Gives last (λ k. next k (view x)) second h r) → IfSome o (λ h. Gives last (λ k. judge k >>= next k) both h r)
-    at None e g = tt
-    at (Some h) e g = gives-second view last judge next second both h x r e (λ f s. widen h f e s) g
+    at : (s : Result _ Exit) → Gives last (λ h. next h (view x)) second held between now s → Gives last whole both held before now s
+    at (Ok w) g = some-both (λ h. judge h (Ok (view x))) (λ h. next h (view x) (Ok (last w))) (λ h. whole h (Ok (last w))) held (λ h j n. rule h (Ok (last w)) (inl (view x, j, n))) p.gives g
+    at (Err e) g = fails-on (class_of e) (λ h. next h (view x)) whole second both held before between now e p.later
+        (some-map (λ h. judge h (Ok (view x))) (λ h. next h (view x) (Err e) → whole h (Err e)) held (λ h j n. rule h (Err e) (inl (view x, j, n))) p.gives)
+        (some-map (λ h. judge h (Ok (view x))) (λ h. (f : List ℕ) → second h f → both h f) held (λ h j f s. widen h f j s) p.gives) g
 
--- a second step that needs no file
-says-gives : {Z W : Type 0} (last : W → Z) (told : Result Z Exit) (both : Held → List ℕ → Type 0) (h : Held) (r : Result W Exit) → Says last told r → Gives last (λ k. told) both h r
-says-gives last told both h (Ok w) p = p
-says-gives last told both h (Err (Refused r)) p = p.1
-says-gives last told both h (Err Memory) p = p
-says-gives last told both h (Err (ReadFault f)) p = absurd p
-says-gives last told both h (Err (Missing f)) p = absurd p
-says-gives last told both h (Err Done) p = p
-says-gives last told both h (Err Usage) p = p
-says-gives last told both h (Err (SaveFault f)) p = p
-says-gives last told both h (Err OutFault) p = p
+refuses-fails : {Y : Type 0} (c : Class) (judge : Result Y Exit → Type 0) (loads : Held → List ℕ → Type 0) (held : Option Held) (before now : Counts) (e : Exit) →
+    RefusesAs c judge e → FailsAs c (λ h. judge) loads held before now e
+refuses-fails Judged judge loads held before now e p = (p.0, always (λ h. judge (Err e)) held (λ h. p.1))
+refuses-fails Wanting judge loads held before now e p = tt
+refuses-fails (Missed f) judge loads held before now e p = absurd p
+refuses-fails (Unread f) judge loads held before now e p = absurd p
+refuses-fails Worded judge loads held before now e p = p
+refuses-fails (Unsaved f) judge loads held before now e p = p
+refuses-fails Unsent judge loads held before now e p = p
 
-says-caused : {Z W : Type 0} (last : W → Z) (told : Result Z Exit) (before now : Counts) (r : Result W Exit) → Says last told r → IfErr r (λ e. IsCaused before now e)
-says-caused last told before now (Ok w) p = tt
-says-caused last told before now (Err (Refused r)) p = tt
-says-caused last told before now (Err Memory) p = tt
-says-caused last told before now (Err (ReadFault f)) p = absurd p
-says-caused last told before now (Err (Missing f)) p = absurd p
-says-caused last told before now (Err Done) p = tt
-says-caused last told before now (Err Usage) p = tt
-says-caused last told before now (Err (SaveFault f)) p = absurd p
-says-caused last told before now (Err OutFault) p = tt
-
-says-failure : {Z W : Type 0} (last : W → Z) (told : Result Z Exit) (r : Result W Exit) → Says last told r → IfErr r (λ e. IsLoadFailure e)
-says-failure last told (Ok w) p = tt
-says-failure last told (Err (Refused r)) p = p.0
-says-failure last told (Err Memory) p = tt
-says-failure last told (Err (ReadFault f)) p = tt
-says-failure last told (Err (Missing f)) p = tt
-says-failure last told (Err Done) p = p
-says-failure last told (Err Usage) p = p
-says-failure last told (Err (SaveFault f)) p = p
-says-failure last told (Err OutFault) p = p
-
-pub pure-step : {X Y Z W : Type 0} (view : X → Y) (last : W → Z) (judge : Held → Result Y Exit) (next : Y → Result Z Exit) (loads : Held → List ℕ → Type 0)
-    (held after : Option Held) (before now : Counts) (x : X) (r : Result W Exit) →
-    StepGives view judge loads held after before now (Ok x) → Says last (next (view x)) r →
-    StepGives last (λ k. judge k >>= next) loads held after before now r
-pure-step view last judge next loads held after before now x r p s = record {
-  same = p.same;
-  later = p.later;
-  caused = says-caused last (next (view x)) before now r s;
-  failure = says-failure last (next (view x)) r s;
-  gives = at held p.gives;
-}
+-- a step that needs no file
+pub found : {X Y : Type 0} (view : X → Y) (judge : Result Y Exit → Type 0) (loads : Held → List ℕ → Type 0) (held : Option Held) (before : Counts) (r : Result X Exit) →
+    Finds view judge r → Step view (λ h. judge) loads held held before before r
+found view judge loads held before r p = record { same = refl; later = none-fell before; gives = at r p }
   where
-    at : (o : Option Held) → IfSome o (λ h. judge h ≡ Ok (view x)) → IfSome o (λ h. Gives last (λ k. judge k >>= next) loads h r)
-    at None e = tt
-    at (Some h) e = gives-second view last judge (λ k. next) loads loads h x r e (λ f s. s) (says-gives last (next (view x)) loads h r s)
+    at : (s : Result _ Exit) → Finds view judge s → Gives view (λ h. judge) loads held before before s
+    at (Ok x) q = always (λ h. judge (Ok (view x))) held (λ h. q)
+    at (Err e) q = refuses-fails (class_of e) judge loads held before before e q
+
+-- a step behind the files of another, which needs none
+pub then-found : {X Y Z W : Type 0} (view : X → Y) (last : W → Z) (judge : Held → Result Y Exit → Type 0) (next : Y → Result Z Exit → Type 0) (whole : Held → Result Z Exit → Type 0) (loads : Held → List ℕ → Type 0)
+    (held after : Option Held) (before now : Counts) (x : X) (r : Result W Exit) → ((h : Held) (q : Result Z Exit) → Then (judge h) next q → whole h q) →
+    Step view judge loads held after before now (Ok x) → Finds last (next (view x)) r → Step last whole loads held after before now r
+then-found view last judge next whole loads held after before now x r rule p s =
+    chained view last judge (λ h. next) whole loads loads loads held after after before now now x r rule (λ h f j l. l) p (found last (next (view x)) loads after now r s)
+
+-- a chain of functions is one of relations
+pub bound : {Y Z : Type 0} (first : Result Y Exit) (next : Y → Result Z Exit) (q : Result Z Exit) → Then (λ r. first ≡ r) (λ y r. next y ≡ r) q → (first >>= next) ≡ q
+bound first next q (inl p) = ap (λ r. r >>= next) p.1 ∙ p.2
+bound first next q (inr p) = ap (λ r. r >>= next) p.1 ∙ sym p.2
+
+-- memory was wanting
+pub wanted : {X Y : Type 0} (view : X → Y) (judge : Held → Result Y Exit → Type 0) (loads : Held → List ℕ → Type 0) (held after : Option Held) (before now : Counts) →
+    after ≡ held → NoneFell before now → Step view judge loads held after before now (Err Memory)
+wanted view judge loads held after before now same later = record { same = same; later = later; gives = tt }

@@ -6,14 +6,17 @@ use Rattle.mig_base.specs.declared.nets.ChipLine.{ChipLine}
 use Rattle.mig_io.specs.Counts.{Counts, NoneFell}
 use Rattle.mig_io.specs.Holding.{Held}
 use Rattle.answers.specs.declared.exit.Exit.{Exit}
-use Rattle.answers.specs.declared.exit.Exit.TheVariants.{Done, Usage, Refused, Missing, ReadFault, SaveFault, OutFault, Memory}
+use Rattle.answers.specs.declared.exit.Exit.TheVariants.{Memory}
+use Rattle.answers.specs.Exits.{class_of}
 use Rattle.mig_base.specs.declared.nets.Net.{Net}
 use Rattle.board.specs.Joined.{Joined}
-use Rattle.palmig_top.specs.Verdict.{◌>>=◌, chip_held, chips_held, wiring_held, parts_held, LoadsChips, LoadsBoard}
-use Rattle.palmig_top.specs.HeldBoard.{jed_file, net_file}
-use Rattle.palmig_top.specs.Steps.{StepGives, Fails}
-use Rattle.taken_boards.specs.TakenBoards.{IsMade, AreMade}
-use Rattle.palmig_top.proofs.Chains.{fell-on, caused-later, second-step, first-failed, pure-step}
+use Rattle.verdicts.specs.Outcomes.{◌>>=◌, Then}
+use Rattle.verdicts.specs.JudgedBoard.{chip_held, chips_held, wiring_held, parts_held, LoadsChips, LoadsBoard}
+use Rattle.verdicts.specs.HeldBoard.{jed_file, net_file}
+use Rattle.palmig_top.specs.Steps.{Step, FailsAs}
+use Rattle.mig_base.specs.Given.{AreMade}
+use Rattle.mig_base.specs.Given.{IsMade}
+use Rattle.palmig_top.proofs.Chains.{fell-on, none-fell, fails-on, some-map, some-both, broken, chained, then-found, bound, wanted}
 
 -- the chip of a line
 abbrev pub chip_at : Held → List ℕ → ChipLine → Result ChipCells Exit
@@ -64,7 +67,7 @@ told-step stem lines left line made cells h t e = record {
 
 pub chips-step : (held now after : Option Held) (before between later : Counts) (stem : List ℕ) (lines left : List ChipLine) (line : ChipLine) (made : List ChipCells) (cells : ChipCells) →
     ChipsSoFar held now before between stem lines (line ∷ left) made →
-    StepGives (λ c. c) (λ h. chip_at h stem line) (λ h f. f ≡ jed_file stem line.name) now after between later (Ok cells) →
+    Step (λ c. c) (λ h q. chip_at h stem line ≡ q) (λ h f. f ≡ jed_file stem line.name) now after between later (Ok cells) →
     ChipsSoFar held after before later stem lines left (made ++ cells ∷ [])
 chips-step held now after before between later stem lines left line made cells s p = record {
   same = p.same ∙ s.same;
@@ -77,36 +80,24 @@ chips-step held now after before between later stem lines left line made cells s
     at (Some h) t e = told-step stem lines left line made cells h t e
 
 -- a chip that fails
-told-fails : (stem : List ℕ) (lines left : List ChipLine) (line : ChipLine) (made : List ChipCells) (h : Held) (e : Exit) →
-    Told stem lines (line ∷ left) made h → Fails (λ k. chip_at k stem line) (λ k f. f ≡ jed_file stem line.name) h e →
-    Fails (λ k. chips_held k stem lines) (λ k f. LoadsChips k stem lines f) h e
-told-fails stem lines left line made h (ReadFault f) t p = t.loads f (inl p)
-told-fails stem lines left line made h (Missing f) t p =
+chip-failed : (stem : List ℕ) (lines left : List ChipLine) (line : ChipLine) (made : List ChipCells) (h : Held) (e : Exit) →
+    Told stem lines (line ∷ left) made h → chip_at h stem line ≡ Err e → chips_held h stem lines ≡ Err e
+chip-failed stem lines left line made h e t p =
     sym t.judged ∙ ap (λ (q : Result ChipCells Exit). behind made (q >>= λ c. chips_held h stem left >>= λ chips. Ok (c ∷ chips))) p
-told-fails stem lines left line made h (Refused r) t p =
-    sym t.judged ∙ ap (λ (q : Result ChipCells Exit). behind made (q >>= λ c. chips_held h stem left >>= λ chips. Ok (c ∷ chips))) p
-told-fails stem lines left line made h Memory t p = tt
-told-fails stem lines left line made h Done t p = p
-told-fails stem lines left line made h Usage t p = p
-told-fails stem lines left line made h (SaveFault f) t p = p
-told-fails stem lines left line made h OutFault t p = p
 
 pub chips-fail : {X : Type 0} (view : X → List ChipCells) (held now after : Option Held) (before between later : Counts) (stem : List ℕ) (lines left : List ChipLine) (line : ChipLine) (made : List ChipCells) (e : Exit) →
     ChipsSoFar held now before between stem lines (line ∷ left) made →
-    StepGives {X = ChipCells} (λ c. c) (λ h. chip_at h stem line) (λ h f. f ≡ jed_file stem line.name) now after between later (Err e) →
-    StepGives view (λ h. chips_held h stem lines) (λ h f. LoadsChips h stem lines f) held after before later (Err e)
+    Step {X = ChipCells} (λ c. c) (λ h q. chip_at h stem line ≡ q) (λ h f. f ≡ jed_file stem line.name) now after between later (Err e) →
+    Step view (λ h q. chips_held h stem lines ≡ q) (λ h f. LoadsChips h stem lines f) held after before later (Err e)
 chips-fail view held now after before between later stem lines left line made e s p = record {
   same = p.same ∙ s.same;
   later = fell-on before between later s.later p.later;
-  caused = caused-later before between later e s.later p.caused;
-  failure = p.failure;
-  gives = at held s.told (subst (λ (o : Option Held). IfSome o (λ h. Fails (λ k. chip_at k stem line) (λ k f. f ≡ jed_file stem line.name) h e)) s.same p.gives);
+  gives = fails-on (class_of e) (λ h (q : Result ChipCells Exit). chip_at h stem line ≡ q) (λ h (q : Result (List ChipCells) Exit). chips_held h stem lines ≡ q) (λ h f. f ≡ jed_file stem line.name) (λ h f. LoadsChips h stem lines f)
+      held before between later e s.later
+      (some-map (Told stem lines (line ∷ left) made) (λ h. chip_at h stem line ≡ Err e → chips_held h stem lines ≡ Err e) held (λ h t q. chip-failed stem lines left line made h e t q) s.told)
+      (some-map (Told stem lines (line ∷ left) made) (λ h. (f : List ℕ) → f ≡ jed_file stem line.name → LoadsChips h stem lines f) held (λ h t f q. t.loads f (inl q)) s.told)
+      (subst (λ (o : Option Held). FailsAs (class_of e) (λ h (q : Result ChipCells Exit). chip_at h stem line ≡ q) (λ h f. f ≡ jed_file stem line.name) o between later e) s.same p.gives);
 }
-  where
-    at : (o : Option Held) → IfSome o (λ h. Told stem lines (line ∷ left) made h) → IfSome o (λ h. Fails (λ k. chip_at k stem line) (λ k f. f ≡ jed_file stem line.name) h e) →
-        IfSome o (λ h. Fails (λ k. chips_held k stem lines) (λ k f. LoadsChips k stem lines f) h e)
-    at None t q = tt
-    at (Some h) t q = told-fails stem lines left line made h e t q
 
 append-nil : (made : List ChipCells) → made ++ [] ≡ made
 append-nil [] = refl
@@ -114,8 +105,8 @@ append-nil (x ∷ xs) = ap (λ (q : List ChipCells). x ∷ q) (append-nil xs)
 
 pub chips-end : {X : Type 0} (view : X → List ChipCells) (held now : Option Held) (before later : Counts) (stem : List ℕ) (lines : List ChipLine) (x : X) →
     ChipsSoFar held now before later stem lines [] (view x) →
-    StepGives view (λ h. chips_held h stem lines) (λ h f. LoadsChips h stem lines f) held now before later (Ok x)
-chips-end view held now before later stem lines x s = record { same = s.same; later = s.later; caused = tt; failure = tt; gives = at held s.told }
+    Step view (λ h q. chips_held h stem lines ≡ q) (λ h f. LoadsChips h stem lines f) held now before later (Ok x)
+chips-end view held now before later stem lines x s = record { same = s.same; later = s.later; gives = at held s.told }
   where
     at : (o : Option Held) → IfSome o (λ h. Told stem lines [] (view x) h) → IfSome o (λ h. chips_held h stem lines ≡ Ok (view x))
     at None t = tt
@@ -124,12 +115,8 @@ chips-end view held now before later stem lines x s = record { same = s.same; la
 -- want of memory on the way
 pub chips-want : {X : Type 0} (view : X → List ChipCells) (held now : Option Held) (before later : Counts) (stem : List ℕ) (lines left : List ChipLine) (made : List ChipCells) →
     ChipsSoFar held now before later stem lines left made →
-    StepGives {X = X} view (λ h. chips_held h stem lines) (λ h f. LoadsChips h stem lines f) held now before later (Err Memory)
-chips-want view held now before later stem lines left made s = record { same = s.same; later = s.later; caused = tt; failure = tt; gives = at held }
-  where
-    at : (o : Option Held) → IfSome o (λ h. Unit {0})
-    at None = tt
-    at (Some h) = tt
+    Step {X = X} view (λ h q. chips_held h stem lines ≡ q) (λ h f. LoadsChips h stem lines f) held now before later (Err Memory)
+chips-want view held now before later stem lines left made s = wanted view (λ h q. chips_held h stem lines ≡ q) (λ h f. LoadsChips h stem lines f) held now before later s.same s.later
 
 -- some fuses make one more chip
 pub read-more : (lines left : List ChipLine) (line : ChipLine) (made : List ChipCells) (cells : ChipCells) → AreMade lines made → IsMade line cells → AreMade (lines ++ line ∷ []) (made ++ cells ∷ [])
@@ -142,24 +129,38 @@ read-more (l ∷ ls) left line (c ∷ cs) cells p q = (p.0, read-more ls left li
 abbrev pub with_net : Net → Result (List ChipCells) Exit → Result Joined Exit
 with_net net r = r >>= λ chips. Ok (record { net = net; chips = chips })
 
-pub parts-failed : {X : Type 0} (view : X → List ChipCells) (held mid after : Option Held) (before between now : Counts) (stem : List ℕ) (net : Net) (e : Exit) →
-    StepGives (λ (n : Net). n) (λ h. wiring_held h stem) (λ h f. f ≡ net_file stem) held mid before between (Ok net) →
-    StepGives {X = X} view (λ h. chips_held h stem net.chips) (λ h f. LoadsChips h stem net.chips f) mid after between now (Err e) →
-    StepGives (λ (p : Joined). p) (λ h. parts_held h stem) (λ h f. LoadsBoard h stem f) held after before now (Err e)
-parts-failed view held mid after before between now stem net e p q =
-    second-step (λ (n : Net). n) (λ (p : Joined). p) (λ h. wiring_held h stem) (λ h n. with_net n (chips_held h stem n.chips))
-    (λ h f. f ≡ net_file stem) (λ h f. LoadsChips h stem net.chips f) (λ h f. LoadsBoard h stem f) held mid after before between now net (Err e)
-    (λ h f found loads. inr (net, found, loads)) p
-    (first-failed view (λ (p : Joined). p) (λ h. chips_held h stem net.chips) (λ h chips. Ok (record { net = net; chips = chips }))
-    (λ h f. LoadsChips h stem net.chips f) (λ h f. LoadsChips h stem net.chips f) mid after between now e (λ h f l. l) q)
+-- the wiring, and then the chips
+parts-bound : (stem : List ℕ) (h : Held) (q : Result Joined Exit) →
+    Then (λ r. wiring_held h stem ≡ r) (λ (n : Net) r. with_net n (chips_held h stem n.chips) ≡ r) q → parts_held h stem ≡ q
+parts-bound stem h q t = bound (wiring_held h stem) (λ n. with_net n (chips_held h stem n.chips)) q t
 
-pub parts-made : {X : Type 0} (view : X → List ChipCells) (held mid after : Option Held) (before between now : Counts) (stem : List ℕ) (net : Net) (x : X) →
-    StepGives (λ (n : Net). n) (λ h. wiring_held h stem) (λ h f. f ≡ net_file stem) held mid before between (Ok net) →
-    StepGives {X = X} view (λ h. chips_held h stem net.chips) (λ h f. LoadsChips h stem net.chips f) mid after between now (Ok x) →
-    StepGives (λ (p : Joined). p) (λ h. parts_held h stem) (λ h f. LoadsBoard h stem f) held after before now (Ok (record { net = net; chips = view x }))
-parts-made view held mid after before between now stem net x p q =
-    second-step (λ (n : Net). n) (λ (p : Joined). p) (λ h. wiring_held h stem) (λ h n. with_net n (chips_held h stem n.chips))
-    (λ h f. f ≡ net_file stem) (λ h f. LoadsChips h stem net.chips f) (λ h f. LoadsBoard h stem f) held mid after before between now net (Ok (record { net = net; chips = view x }))
-    (λ h f found loads. inr (net, found, loads)) p
-    (pure-step view (λ (p : Joined). p) (λ h. chips_held h stem net.chips) (λ chips. Ok (record { net = net; chips = chips }))
-    (λ h f. LoadsChips h stem net.chips f) mid after between now x (Ok (record { net = net; chips = view x })) q refl)
+pub wiring-failed : {X : Type 0} (view : X → Joined) (held after : Option Held) (before now : Counts) (stem : List ℕ) (e : Exit) →
+    Step {X = Net} (λ n. n) (λ h q. wiring_held h stem ≡ q) (λ h f. f ≡ net_file stem) held after before now (Err e) →
+    Step view (λ h q. parts_held h stem ≡ q) (λ h f. LoadsBoard h stem f) held after before now (Err e)
+wiring-failed view held after before now stem e p =
+    broken (λ (n : Net). n) view (λ h q. wiring_held h stem ≡ q) (λ h (n : Net) r. with_net n (chips_held h stem n.chips) ≡ r) (λ h q. parts_held h stem ≡ q) (λ h f. f ≡ net_file stem) (λ h f. LoadsBoard h stem f)
+    held after before now e (parts-bound stem) (λ h f l. inl l) p
+
+pub parts-failed : {X V : Type 0} (view : X → Joined) (items : V → List ChipCells) (held mid after : Option Held) (before between now : Counts) (stem : List ℕ) (net : Net) (e : Exit) →
+    Step (λ (n : Net). n) (λ h q. wiring_held h stem ≡ q) (λ h f. f ≡ net_file stem) held mid before between (Ok net) →
+    Step {X = V} items (λ h q. chips_held h stem net.chips ≡ q) (λ h f. LoadsChips h stem net.chips f) mid after between now (Err e) →
+    Step view (λ h q. parts_held h stem ≡ q) (λ h f. LoadsBoard h stem f) held after before now (Err e)
+parts-failed view items held mid after before between now stem net e p q =
+    chained (λ (n : Net). n) view (λ h r. wiring_held h stem ≡ r) (λ h (n : Net) r. with_net n (chips_held h stem n.chips) ≡ r) (λ h r. parts_held h stem ≡ r)
+    (λ h f. f ≡ net_file stem) (λ h f. LoadsChips h stem net.chips f) (λ h f. LoadsBoard h stem f) held mid after before between now net (Err e)
+    (parts-bound stem) (λ h f j l. inr (net, j, l)) p
+    (broken items view (λ h r. chips_held h stem net.chips ≡ r) (λ h chips r. Ok (record { net = net; chips = chips }) ≡ r) (λ h r. with_net net (chips_held h stem net.chips) ≡ r)
+    (λ h f. LoadsChips h stem net.chips f) (λ h f. LoadsChips h stem net.chips f) mid after between now e
+    (λ h r t. bound (chips_held h stem net.chips) (λ chips. Ok (record { net = net; chips = chips })) r t) (λ h f l. l) q)
+
+pub parts-made : {V : Type 0} (items : V → List ChipCells) (held mid after : Option Held) (before between now : Counts) (stem : List ℕ) (net : Net) (x : V) →
+    Step (λ (n : Net). n) (λ h q. wiring_held h stem ≡ q) (λ h f. f ≡ net_file stem) held mid before between (Ok net) →
+    Step {X = V} items (λ h q. chips_held h stem net.chips ≡ q) (λ h f. LoadsChips h stem net.chips f) mid after between now (Ok x) →
+    Step (λ (p : Joined). p) (λ h q. parts_held h stem ≡ q) (λ h f. LoadsBoard h stem f) held after before now (Ok (record { net = net; chips = items x }))
+parts-made items held mid after before between now stem net x p q =
+    chained (λ (n : Net). n) (λ (p : Joined). p) (λ h r. wiring_held h stem ≡ r) (λ h (n : Net) r. with_net n (chips_held h stem n.chips) ≡ r) (λ h r. parts_held h stem ≡ r)
+    (λ h f. f ≡ net_file stem) (λ h f. LoadsChips h stem net.chips f) (λ h f. LoadsBoard h stem f) held mid after before between now net (Ok (record { net = net; chips = items x }))
+    (parts-bound stem) (λ h f j l. inr (net, j, l)) p
+    (then-found items (λ (p : Joined). p) (λ h r. chips_held h stem net.chips ≡ r) (λ chips r. Ok (record { net = net; chips = chips }) ≡ r) (λ h r. with_net net (chips_held h stem net.chips) ≡ r)
+    (λ h f. LoadsChips h stem net.chips f) mid after between now x (Ok (record { net = net; chips = items x }))
+    (λ h r t. bound (chips_held h stem net.chips) (λ chips. Ok (record { net = net; chips = chips })) r t) q refl)

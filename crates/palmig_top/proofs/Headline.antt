@@ -1,5 +1,5 @@
 -- What a migration leaves.
-use Rattle.std.proofs.Common.{ℕ, ◌≡◌, true, List, [], ◌∷◌, ◌++◌, map, Option, Some, None, Result, Ok, refl, sym, ap, ◌∙◌, subst, append_assoc, inl, inr}
+use Rattle.std.proofs.Common.{ℕ, ◌≡◌, true, false, List, [], ◌∷◌, ◌++◌, map, Option, Some, None, Result, Ok, Err, refl, sym, ap, ◌∙◌, subst, append_assoc, inl, inr}
 use Rattle.std.specs.Prelude.{IfSome}
 use Rattle.std.specs.List.{AllByRecursion}
 use Rattle.std.specs.Str.{bytes_eq}
@@ -12,12 +12,13 @@ use Rattle.mig_base.specs.Limits.{most_file_bytes}
 use Rattle.mig_base.specs.WrittenBoard.{written_net, are_distinct, IsWritable}
 use Rattle.mig_base.specs.WrittenPlan.{written_plan}
 use Rattle.mig_base.specs.BoardText.{net_of_text}
-use Rattle.mig_base.proofs.BoardReadBack.{written-read}
-use Rattle.mig_base.proofs.WrittenLength.{written-short}
+use Rattle.net_text.proofs.BoardReadBack.{written-read}
+use Rattle.net_text.proofs.WrittenLength.{written-short}
 use Rattle.mig_io.specs.Counts.{Counts}
 use Rattle.mig_io.specs.Holding.{Held}
 use Rattle.new_board.specs.declared.types.FittedChip.{FittedChip}
-use Rattle.taken_boards.specs.TakenBoards.{AreMade, TakenBoard}
+use Rattle.taken_boards.specs.TakenBoards.{TakenBoard}
+use Rattle.mig_base.specs.Given.{AreMade}
 use Rattle.new_board.specs.OneForOne.{one_for_one}
 use Rattle.new_board.specs.NewFiles.{new_chip_line}
 use Rattle.rebuilt_boards.specs.RebuiltBoards.{built_chips, built_cells, built_net, IsRebuilt, IsBuiltWell}
@@ -30,14 +31,18 @@ use Rattle.answers.specs.declared.exit.Refusal.TheVariants as refusal
 use Rattle.answers.specs.declared.words.Command.{Command}
 use Rattle.answers.specs.declared.words.Command.TheVariants.{Migrate}
 use Rattle.answers.specs.declared.words.Migration.{Migration}
-use Rattle.answers.specs.Commands.{command_or_refusal}
 use Rattle.board.specs.Joined.{Joined}
-use Rattle.palmig_top.specs.HeldBoard.{HoldsBoard, HoldsChips, HoldsFile, net_file, plan_file}
-use Rattle.palmig_top.specs.Verdict.{◌>>=◌, File, Outcome, JudgesWords, JudgesCall, JudgesMigration, outcome_or_later, outcome_of, files_of, fuse_file, is_taken_board, loaded, wiring_of, wiring_held, chips_held, parts_held}
-use Rattle.palmig_top.specs.Answer.{Answers, LeavesFiles, placed_all}
-use Rattle.palmig_top.specs.Clauses.{Call, IsMigrated, Migrated}
+use Rattle.verdicts.specs.HeldBoard.{HoldsBoard, HoldsChips, HoldsFile, net_file, plan_file}
+use Rattle.verdicts.specs.Outcomes.{◌>>=◌, File, Outcome}
+use Rattle.verdicts.specs.Verdict.{JudgesSaid}
+use Rattle.verdicts.specs.commands.Migrate.{JudgesMigration, PreparesMigration, migrated_or_later, migrated, saved_files, is_taken_board}
+use Rattle.verdicts.specs.JudgedBoard.{loaded, wiring_of, wiring_held, chips_held, parts_held}
+use Rattle.verdicts.specs.Answer.{Call, Comes, Answers, LeavesFiles, placed_all}
+use Rattle.verdicts.specs.Clauses.{IsMigrated, Migrated}
 use Rattle.palmig_top.proofs.HeldParts.{board-parts, went, only, told, holds-file, chips-hold, chips-read, taken-board, read-writable}
-use Rattle.palmig_top.proofs.NewFilesHeld.{built-chips, apart-behind, last-placed}
+use Rattle.palmig_top.proofs.NewFilesHeld.{chip_file, built-chips, apart-behind, last-placed}
+use Rattle.palmig_top.proofs.NewFilesMade.{saved-spread}
+use Rattle.palmig_top.proofs.NotDone.{is_done, plain-only, board-plain}
 
 -- a board that was judged
 pub record Judged (h : Held) (stem : List ℕ) (parts : Joined) : Type 0 where
@@ -76,12 +81,12 @@ names-of (f ∷ fs) = ap (λ (q : List (List ℕ)). f.name ∷ q) (names-of fs)
 
 -- the fuse files and the plan
 front : List ℕ → Joined → List File
-front stem parts = map (fuse_file stem) (built_chips parts.net parts.chips) ++ (plan_file stem, written_plan (one_for_one parts.net parts.chips)) ∷ []
+front stem parts = map (chip_file stem) (built_chips parts.net parts.chips) ++ (plan_file stem, written_plan (one_for_one parts.net parts.chips)) ∷ []
 
-wiring-placed : (h : Held) (stem : List ℕ) (parts : Joined) → placed_all (files_of stem parts) h (net_file stem) ≡ Some (written_net (built_net parts.net parts.chips))
+wiring-placed : (h : Held) (stem : List ℕ) (parts : Joined) → placed_all (saved_files stem parts) h (net_file stem) ≡ Some (written_net (built_net parts.net parts.chips))
 unfolding front
-wiring-placed h stem parts = ap (λ (fs : List File). placed_all fs h (net_file stem))
-    (sym (append_assoc (map (fuse_file stem) (built_chips parts.net parts.chips)) ((plan_file stem, written_plan (one_for_one parts.net parts.chips)) ∷ [])
+wiring-placed h stem parts = ap (λ (fs : List File). placed_all fs h (net_file stem)) (saved-spread stem parts)
+    ∙ ap (λ (fs : List File). placed_all fs h (net_file stem)) (sym (append_assoc (map (chip_file stem) (built_chips parts.net parts.chips)) ((plan_file stem, written_plan (one_for_one parts.net parts.chips)) ∷ [])
     ((net_file stem, written_net (built_net parts.net parts.chips)) ∷ [])))
     ∙ last-placed (front stem parts) (net_file stem, written_net (built_net parts.net parts.chips)) h
 
@@ -90,18 +95,19 @@ chips-distinct net chips w = ap (are_distinct bytes_eq) (sym (names-of (built_ch
 
 -- the new files form the new board
 new-board : (h : Held) (stem : List ℕ) (parts : Joined) → IsBuiltWell parts.net parts.chips → IsRebuilt parts.net parts.chips →
-    HoldsBoard (placed_all (files_of stem parts) h) stem (built_net parts.net parts.chips) (built_cells parts.net parts.chips)
+    HoldsBoard (placed_all (saved_files stem parts) h) stem (built_net parts.net parts.chips) (built_cells parts.net parts.chips)
 new-board h stem parts well rebuilt = record {
   bytes = written_net (built_net parts.net parts.chips);
   file = record { content = wiring-placed h stem parts; short = written-short (built_net parts.net parts.chips) well.wiring };
   wiring = written-read (built_net parts.net parts.chips) well.wiring;
-  fuses = built-chips stem ((plan_file stem, written_plan (one_for_one parts.net parts.chips)) ∷ (net_file stem, written_net (built_net parts.net parts.chips)) ∷ [])
+  fuses = subst (λ (fs : List File). HoldsChips (placed_all fs h) stem (built_net parts.net parts.chips).chips (built_cells parts.net parts.chips)) (sym (saved-spread stem parts))
+      (built-chips stem ((plan_file stem, written_plan (one_for_one parts.net parts.chips)) ∷ (net_file stem, written_net (built_net parts.net parts.chips)) ∷ [])
       (apart-behind stem (written_plan (one_for_one parts.net parts.chips)) (written_net (built_net parts.net parts.chips))) (built_chips parts.net parts.chips) h (chips-distinct parts.net parts.chips well.wiring)
-      (gals-v8 (built_chips parts.net parts.chips) well.kinds) well.cells;
+      (gals-v8 (built_chips parts.net parts.chips) well.kinds) well.cells);
   accepted = rebuilt.new_accepted;
 }
 
-moved : (h : Held) (old new : List ℕ) (parts : Joined) → Judged h old parts → TakenBoard parts.net parts.chips → Migrated h (placed_all (files_of new parts) h) old new
+moved : (h : Held) (old new : List ℕ) (parts : Joined) → Judged h old parts → TakenBoard parts.net parts.chips → Migrated h (placed_all (saved_files new parts) h) old new
 moved h old new parts j taken =
     let rebuilt = taken-rebuilt parts.net parts.chips taken in
     let well = built-well parts.net parts.chips (read-writable parts.net (j.bytes, j.text)) taken in
@@ -123,28 +129,39 @@ moved h old new parts j taken =
       cells = refl;
     }
 
-moved-from : (m : Migration) (h : Held) (outcome : Outcome) (b : Joined) → parts_held h m.old ≡ Ok b → outcome_or_later m b ≡ Ok outcome → Migrated h (placed_all outcome.saves h) m.old m.new
+moved-from : (m : Migration) (h : Held) (outcome : Outcome) (b : Joined) → parts_held h m.old ≡ Ok b → migrated_or_later m b ≡ Ok outcome → Migrated h (placed_all outcome.saves h) m.old m.new
 moved-from m h outcome b e then =
-    let o = only (is_taken_board b) (outcome_of m.new b) outcome (Refused (Later (net_file m.old))) then in
+    let o = only (is_taken_board b) (migrated m.new b) outcome (Refused (Later (net_file m.old))) then in
     let j = judged-parts h m.old b e in
     subst (λ (q : Outcome). Migrated h (placed_all q.saves h) m.old m.new) o.same
     (moved h m.old m.new b j (taken-board b (record { wiring = (j.bytes, j.text); chips = j.read }) o.passed))
 
+prepared-moved : (m : Migration) (h : Held) (outcome : Outcome) → PreparesMigration m h (Ok outcome) → Migrated h (placed_all outcome.saves h) m.old m.new
+prepared-moved m h outcome (inl p) = moved-from m h outcome p.0 (board-parts h m.old p.0 p.1) p.2
+prepared-moved m h outcome (inr p) = absurd (let no : ⊥ = cc in no)
+
+-- no refusal of a migration is Done
+refused-plain : (m : Migration) (h : Held) (e : Exit) → PreparesMigration m h (Err e) → is_done e ≡ false
+refused-plain m h e (inl p) = plain-only (is_taken_board p.0) (migrated m.new p.0) (Refused (Later (net_file m.old))) refl e p.2
+refused-plain m h e (inr p) = let same : e ≡ p.0 = cc in ap is_done same ∙ board-plain h m.old p.0 p.1
+
 -- a migration that is done has moved the board
-pub migrated : (m : Migration) (h : Held) (outcome : Outcome) → JudgesMigration m h (Ok outcome) → Migrated h (placed_all outcome.saves h) m.old m.new
-migrated m h outcome (inl p) = moved-from m h outcome p.0 (board-parts h m.old p.0 p.1) p.2
-migrated m h outcome (inr p) = absurd (let no : ⊥ = cc in no)
+judged-moved : (m : Migration) (h : Held) (outcome : Outcome) → JudgesMigration m h outcome → outcome.answer ≡ Done → Migrated h (placed_all outcome.saves h) m.old m.new
+judged-moved m h outcome (inl p) done = subst (λ (q : Outcome). Migrated h (placed_all q.saves h) m.old m.new) (sym p.2) (prepared-moved m h p.0 p.1)
+judged-moved m h outcome (inr p) done =
+    let plain : is_done p.0 ≡ false = refused-plain m h p.0 p.1 in
+    let same : p.0 ≡ Done = ap (λ (q : Outcome). q.answer) (sym p.2) ∙ done in
+    let wrong : true ≡ false = sym (ap is_done same) ∙ plain in
+    absurd (let no : ⊥ = cc in no)
 
-migration-judged : (words : List (List ℕ)) (m : Migration) (h : Held) (outcome : Outcome) → command_or_refusal words ≡ Ok (Migrate m) → JudgesWords words h (Ok outcome) → JudgesMigration m h (Ok outcome)
-migration-judged words m h outcome e j = subst (λ (q : Result Command Exit). JudgesCall q h (Ok outcome)) e j
+done-moved : (call : Call) (held after : Option Held) → IfSome held (λ h. (c : Comes call.said h Done) × (after ≡ Some (placed_all c.outcome.saves h))) →
+    IfSome held (λ h. IfSome after (λ k. (m : Migration) → call.said ≡ Ok (Migrate m) → Migrated h k m.old m.new))
+done-moved call None after p = tt
+done-moved call (Some h) None p = tt
+done-moved call (Some h) (Some k) p = λ m w.
+    let same : k ≡ placed_all p.0.outcome.saves h = cc in
+    subst (λ (q : Held). Migrated h q m.old m.new) (sym same)
+    (judged-moved m h p.0.outcome (subst (λ (q : Result Command Exit). JudgesSaid q h p.0.outcome) w p.0.judged) p.0.its_answer)
 
-done-migrated : (words : List (List ℕ)) (held after : Option Held) (before now : Counts) → LeavesFiles words held after before now Done →
-    IfSome held (λ h. IfSome after (λ k. (m : Migration) → command_or_refusal words ≡ Ok (Migrate m) → Migrated h k m.old m.new))
-done-migrated words None after before now p = tt
-done-migrated words (Some h) None before now p = tt
-done-migrated words (Some h) (Some k) before now p = λ m e.
-    let same : k ≡ placed_all p.0.saves h = cc in
-    subst (λ (q : Held). Migrated h q m.old m.new) (sym same) (migrated m h p.0 (migration-judged words m h p.0 e p.1))
-
-pub headline : (call : Call) (e : Exit) → Answers call.words call.held call.after call.before call.now e → IsMigrated call e
-headline call e p = λ done. done-migrated call.words call.held call.after call.before call.now (subst (λ (x : Exit). LeavesFiles call.words call.held call.after call.before call.now x) done p.files)
+pub headline : (call : Call) (e : Exit) → Answers call e → IsMigrated call e
+headline call e a = λ done. done-moved call call.held call.after (subst (λ (x : Exit). LeavesFiles call x) done a.right.files)

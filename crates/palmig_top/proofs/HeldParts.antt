@@ -9,17 +9,20 @@ use Rattle.mig_base.specs.Limits.{most_file_bytes}
 use Rattle.mig_base.specs.FuseText.{fuses_of_text}
 use Rattle.mig_base.specs.Cells.{cells_of}
 use Rattle.mig_base.specs.WrittenBoard.{IsWritable}
-use Rattle.mig_base.proofs.BoardGiven.{given-writable}
+use Rattle.net_text.proofs.BoardGiven.{given-writable}
 use Rattle.mig_io.specs.Holding.{Held}
-use Rattle.taken_boards.specs.TakenBoards.{is_taken_wiring, is_taken_form, AreMade, TakenBoard}
+use Rattle.taken_boards.specs.TakenBoards.{is_taken_wiring, is_taken_form, TakenBoard}
+use Rattle.mig_base.specs.Given.{AreMade, IsGiven}
 use Rattle.rebuilt_boards.proofs.BoardForms.{writable-lines}
 use Rattle.answers.specs.declared.exit.Exit.{Exit}
 use Rattle.answers.specs.declared.exit.Exit.TheVariants.{Refused}
 use Rattle.answers.specs.declared.exit.Refusal.{Refusal}
 use Rattle.answers.specs.declared.exit.Refusal.TheVariants.{TooLong, Jed, Chip}
 use Rattle.board.specs.Joined.{Joined}
-use Rattle.palmig_top.specs.HeldBoard.{HoldsFile, HoldsChip, HoldsChips, jed_file}
-use Rattle.palmig_top.specs.Verdict.{◌>>=◌, only_if, or_refused, within_at, loaded, chip_of, chip_held, chips_held, parts_held, is_taken_board, JudgesBoard}
+use Rattle.verdicts.specs.HeldBoard.{HoldsFile, HoldsChip, HoldsChips, jed_file}
+use Rattle.verdicts.specs.Outcomes.{◌>>=◌, only_if, or_refused}
+use Rattle.verdicts.specs.JudgedBoard.{within_at, loaded, chip_of, chip_held, chips_held, parts_held, JudgesBoard}
+use Rattle.verdicts.specs.commands.Migrate.{is_taken_board}
 use Rattle.palmig_top.specs.Reading.{IsReadWiring, IsReadBoard}
 
 -- both steps of a chain that went well
@@ -92,6 +95,10 @@ board-parts h stem b (inr p) = absurd (let no : ⊥ = cc in no)
 -- a board that was read, and is of the form that is taken
 pub read-writable : (net : Net) → IsReadWiring net → IsWritable net
 read-writable net r = given-writable r.0 net r.1
+
+-- what was read makes a board
+pub read-given : (parts : Joined) → IsReadBoard parts → IsGiven parts.net parts.chips
+read-given parts r = record { wiring = read-writable parts.net r.wiring; cells = r.chips }
 
 and-parts : (a b : Bool) → (a && b) ≡ true → (a ≡ true) × (b ≡ true)
 and-parts true b e = (refl, e)

@@ -9,7 +9,8 @@ use Rattle.std.specs.Option.{option_map}
 use Rattle.mig_io.specs.Holding.{Held}
 use Rattle.answers.specs.declared.exit.Exit.TheVariants.{Refused}
 use Rattle.answers.specs.declared.exit.Refusal.TheVariants.{TooLong}
-use Rattle.palmig_top.specs.Verdict.{loaded, within_at, only_if}
+use Rattle.verdicts.specs.JudgedBoard.{loaded, within_at}
+use Rattle.verdicts.specs.Outcomes.{only_if}
 
 take-past : (n : ℕ) (l : List ℕ) → length l ≤ n → take n l ≡ l
 take-past n l h = grind (arith, common_steps)

@@ -18,45 +18,49 @@ use Rattle.mig_base.specs.WrittenPlan.{written_plan}
 use Rattle.mig_base.specs.WrittenCells.{v8_fuses}
 use Rattle.mig_base.specs.WrittenFuses.{written_fuses}
 use Rattle.new_board.specs.declared.types.FittedChip.{FittedChip}
+use Rattle.new_board.specs.Files.{NewFile, chip_fuses, fuse_file, file_under, last_files}
 use Rattle.new_board.specs.OneForOne.{one_for_one}
-use Rattle.taken_boards.specs.TakenBoards.{AreMade, is_taken_wiring, are_taken_ports, is_taken_circuit}
+use Rattle.taken_boards.specs.TakenBoards.{is_taken_wiring, are_taken_ports, is_taken_circuit}
+use Rattle.mig_base.specs.Given.{AreMade}
 use Rattle.rebuilt_boards.specs.RebuiltBoards.{IsBuiltWell, built_chips}
 use Rattle.answers.specs.declared.exit.Exit.{Exit}
 use Rattle.answers.specs.declared.exit.Exit.TheVariants.{Refused, Memory}
 use Rattle.answers.specs.declared.exit.Refusal.TheVariants.{Later}
 use Rattle.answers.specs.declared.words.Migration.{Migration}
 use Rattle.board.specs.Joined.{Joined, equations_of}
-use Rattle.palmig_top.specs.declared.prepare.Prepared.{Prepared}
-use Rattle.palmig_top.specs.HeldBoard.{net_file, plan_file, jed_file}
-use Rattle.palmig_top.specs.Verdict.{File, Outcome, fuse_file, files_of, new_chips, new_wiring, done_line, outcome_of, outcome_or_later, is_taken_board, only_if}
-use Rattle.palmig_top.specs.Steps.{Says}
+use Rattle.palmig_top.specs.declared.prepared.Prepared.{Prepared}
+use Rattle.verdicts.specs.HeldBoard.{net_file, plan_file, jed_file}
+use Rattle.verdicts.specs.Outcomes.{File, Outcome, only_if, done}
+use Rattle.verdicts.specs.commands.Migrate.{saved_files, new_chips, new_wiring, done_line, migrated, migrated_or_later, is_taken_board}
+use Rattle.palmig_top.specs.Steps.{Finds, IsEnd}
 use Rattle.palmig_top.specs.Reading.{IsReadBoard}
 use Rattle.palmig_top.specs.Preparing.{outcome_in, IsWritableChip}
 use Rattle.rebuilt_boards.proofs.BuiltWell.{built-well}
 use Rattle.palmig_top.proofs.HeldParts.{read-writable, taken-board}
+use Rattle.palmig_top.proofs.NewFilesHeld.{chip_file, fuses-v8}
 
 -- the text of a chip's fuses
-pub fuse-text-made : {V E : Type 0} (items : V → List ℕ) (k : Kind) (bits : List Bool) (cells : ChipCells) (r : Result V E) → bits ≡ v8_fuses cells →
-    IfOk r (λ v. items v ≡ written_fuses k bits) → MatchResult r (λ v. items v ≡ written_fuses k (v8_fuses cells)) (λ e. Unit {0})
+pub fuse-text-made : {V E : Type 0} (items : V → List ℕ) (k : Kind) (bits : List Bool) (cells : ChipCells) (r : Result V E) → bits ≡ chip_fuses cells →
+    IfOk r (λ v. items v ≡ written_fuses k bits) → MatchResult r (λ v. items v ≡ written_fuses k (chip_fuses cells)) (λ e. Unit {0})
 fuse-text-made items k bits cells (Ok v) e made = made ∙ ap (written_fuses k) e
 fuse-text-made items k bits cells (Err x) e made = tt
 
 -- a chip's file behind the others
 pub file-added : (stem : List ℕ) (chip : FittedChip) (old new : List File) (name text : List ℕ) (r : Result (Unit {0}) Exit) → name ≡ jed_file stem chip.name →
-    text ≡ written_fuses chip.cells.kind (v8_fuses chip.cells) → MatchResult r (λ done. new ≡ old ++ (name, text) ∷ []) (λ e. e ≡ Memory) →
-    MatchResult r (λ done. new ≡ old ++ fuse_file stem chip ∷ []) (λ e. e ≡ Memory)
+    text ≡ written_fuses chip.cells.kind (chip_fuses chip.cells) → MatchResult r (λ done. new ≡ old ++ (name, text) ∷ []) (λ e. e ≡ Memory) →
+    MatchResult r (λ done. new ≡ old ++ chip_file stem chip ∷ []) (λ e. e ≡ Memory)
 file-added stem chip old new name text (Ok done) named said made = made ∙ ap (λ (n : List ℕ). old ++ (n, text) ∷ []) named ∙ ap (λ (t : List ℕ). old ++ (jed_file stem chip.name, t) ∷ []) said
 file-added stem chip old new name text (Err e) named said made = made
 
-files-append : (stem : List ℕ) (cs : List FittedChip) (c : FittedChip) → map (fuse_file stem) (cs ++ c ∷ []) ≡ map (fuse_file stem) cs ++ fuse_file stem c ∷ []
+files-append : (stem : List ℕ) (cs : List FittedChip) (c : FittedChip) → map (chip_file stem) (cs ++ c ∷ []) ≡ map (chip_file stem) cs ++ chip_file stem c ∷ []
 files-append stem [] c = refl
-files-append stem (d ∷ cs) c = ap (λ (q : List File). fuse_file stem d ∷ q) (files-append stem cs c)
+files-append stem (d ∷ cs) c = ap (λ (q : List File). chip_file stem d ∷ q) (files-append stem cs c)
 
 -- one more chip has its file
-pub files-more : (stem : List ℕ) (front more : List FittedChip) (c : FittedChip) (old new : List File) → more ≡ front ++ c ∷ [] → old ≡ map (fuse_file stem) front →
-    new ≡ old ++ fuse_file stem c ∷ [] → new ≡ map (fuse_file stem) more
+pub files-more : (stem : List ℕ) (front more : List FittedChip) (c : FittedChip) (old new : List File) → more ≡ front ++ c ∷ [] → old ≡ map (chip_file stem) front →
+    new ≡ old ++ chip_file stem c ∷ [] → new ≡ map (chip_file stem) more
 files-more stem front more c old new e was now =
-    now ∙ ap (λ (q : List File). q ++ fuse_file stem c ∷ []) was ∙ sym (files-append stem front c) ∙ ap (λ (q : List FittedChip). map (fuse_file stem) q) (sym e)
+    now ∙ ap (λ (q : List File). q ++ chip_file stem c ∷ []) was ∙ sym (files-append stem front c) ∙ ap (λ (q : List FittedChip). map (chip_file stem) q) (sym e)
 
 as-many : (lines : List ChipLine) (chips : List ChipCells) → AreMade lines chips → length chips ≡ length lines
 as-many [] [] r = refl
@@ -85,31 +89,55 @@ writable-chips parts r form made e =
 pub writable-wiring : (parts : Joined) → IsReadBoard parts → is_taken_board parts ≡ true → (made : Net) → made ≡ new_wiring parts → IsWritable made
 writable-wiring parts r form made e = subst IsWritable (sym e) (built-of parts r form).wiring
 
+spread : (stem : List ℕ) (fs : List FittedChip) (rest : List NewFile) → map (file_under stem) (map fuse_file fs ++ rest) ≡ map (chip_file stem) fs ++ map (file_under stem) rest
+spread stem [] rest = refl
+spread stem (f ∷ fs) rest = ap (λ (q : List File). chip_file stem f ∷ q) (spread stem fs rest)
+
+-- the saved files one by one
+pub saved-spread : (stem : List ℕ) (parts : Joined) → saved_files stem parts
+    ≡ map (chip_file stem) (new_chips parts) ++ (plan_file stem, written_plan (one_for_one parts.net parts.chips)) ∷ (net_file stem, written_net (new_wiring parts)) ∷ []
+saved-spread stem parts = spread stem (new_chips parts) (last_files (one_for_one parts.net parts.chips) (new_wiring parts))
+
 -- what is saved and reported is what should be
 pub outcome-made : (stem : List ℕ) (parts : Joined) (chips : List FittedChip) (plan : Plan) (net : Net) (saves : List File) (report : List ℕ) (lines : List ChipLine) (counted : List FittedChip) →
     chips ≡ new_chips parts → plan ≡ one_for_one parts.net parts.chips → net ≡ new_wiring parts →
-    saves ≡ map (fuse_file stem) chips ++ (plan_file stem, written_plan plan) ∷ (net_file stem, written_net net) ∷ [] →
-    report ≡ done_line (length lines) (length counted) → lines ≡ parts.net.chips → counted ≡ chips →
-    ◌≡◌ {A = Outcome} (record { saves = saves; report = report }) (outcome_of stem parts)
+    saves ≡ map (chip_file stem) chips ++ (plan_file stem, written_plan plan) ∷ (net_file stem, written_net net) ∷ [] →
+    report ≡ done_line (length lines) (length counted) → lines ≡ parts.net.chips → counted ≡ chips → done saves report ≡ migrated stem parts
 outcome-made stem parts chips plan net saves report lines counted c p n s r l d =
-    ap (λ (x : List File). record { saves = x; report = report }) (s
-    ∙ ap (λ (q : List FittedChip). map (fuse_file stem) q ++ (plan_file stem, written_plan plan) ∷ (net_file stem, written_net net) ∷ []) c
-    ∙ ap (λ (q : Plan). map (fuse_file stem) (new_chips parts) ++ (plan_file stem, written_plan q) ∷ (net_file stem, written_net net) ∷ []) p
-    ∙ ap (λ (q : Net). map (fuse_file stem) (new_chips parts) ++ (plan_file stem, written_plan (one_for_one parts.net parts.chips)) ∷ (net_file stem, written_net q) ∷ []) n)
-    ∙ ap (λ (x : List ℕ). record { saves = files_of stem parts; report = x }) (r
+    ap (λ (x : List File). done x report) (s
+    ∙ ap (λ (q : List FittedChip). map (chip_file stem) q ++ (plan_file stem, written_plan plan) ∷ (net_file stem, written_net net) ∷ []) c
+    ∙ ap (λ (q : Plan). map (chip_file stem) (new_chips parts) ++ (plan_file stem, written_plan q) ∷ (net_file stem, written_net net) ∷ []) p
+    ∙ ap (λ (q : Net). map (chip_file stem) (new_chips parts) ++ (plan_file stem, written_plan (one_for_one parts.net parts.chips)) ∷ (net_file stem, written_net q) ∷ []) n
+    ∙ sym (saved-spread stem parts))
+    ∙ ap (λ (x : List ℕ). done (saved_files stem parts) x) (r
     ∙ ap (λ (q : List ChipLine). done_line (length q) (length counted)) l ∙ ap (λ (q : List FittedChip). done_line (length parts.net.chips) (length q)) (d ∙ c))
 
 -- a board of another form is left for later
 pub left-for-later : (m : Migration) (parts : Joined) (name : List ℕ) → is_taken_board parts ≡ false → name ≡ net_file m.old →
-    Says {X = Prepared} outcome_in (outcome_or_later m parts) (Err (Refused (Later name)))
+    Finds {X = Prepared} outcome_in (λ q. migrated_or_later m parts ≡ q) (Err (Refused (Later name)))
 left-for-later m parts name e n =
-    (tt, ap (λ (b : Bool). only_if b (outcome_of m.new parts) (Refused (Later (net_file m.old)))) e ∙ ap (λ (q : List ℕ). Err (Refused (Later q))) (sym n))
+    (tt, ap (λ (b : Bool). only_if b (migrated m.new parts) (Refused (Later (net_file m.old)))) e ∙ ap (λ (q : List ℕ). Err (Refused (Later q))) (sym n))
 
 -- a board of the form is done, but for want of memory
 pub done-or-memory : (m : Migration) (parts : Joined) (r : Result Prepared Exit) → is_taken_board parts ≡ true →
-    MatchResult r (λ p. outcome_in p ≡ outcome_of m.new parts) (λ e. e ≡ Memory) → Says outcome_in (outcome_or_later m parts) r
-done-or-memory m parts (Ok p) form made = ap (λ (b : Bool). only_if b (outcome_of m.new parts) (Refused (Later (net_file m.old)))) form ∙ ap (λ (o : Outcome). Ok o) (sym made)
-done-or-memory m parts (Err e) form made = subst (λ (x : Exit). Says outcome_in (outcome_or_later m parts) (Err x)) (sym made) tt
+    MatchResult r (λ p. outcome_in p ≡ migrated m.new parts) (λ e. e ≡ Memory) → Finds outcome_in (λ q. migrated_or_later m parts ≡ q) r
+done-or-memory m parts (Ok p) form made = ap (λ (b : Bool). only_if b (migrated m.new parts) (Refused (Later (net_file m.old)))) form ∙ ap (λ (o : Outcome). Ok o) (sym made)
+done-or-memory m parts (Err e) form made = subst (λ (x : Exit). Finds outcome_in (λ q. migrated_or_later m parts ≡ q) (Err x)) (sym made) tt
+
+-- what is done is an end
+pub done-ends : (saves : List File) (report : List ℕ) → IsEnd (done saves report)
+done-ends saves report = record { class = refl; sound = tt; own = λ own. let no : ⊥ = cc in absurd no }
+
+pub found-ends : (m : Migration) (parts : Joined) (r : Result Prepared Exit) → Finds outcome_in (λ q. migrated_or_later m parts ≡ q) r → IfOk r (λ p. IsEnd (outcome_in p))
+found-ends m parts (Err e) f = tt
+found-ends m parts (Ok p) f = at (is_taken_board parts) f
+  where
+    ok-same : (x y : Outcome) → (let q : Result Outcome Exit = Ok x in q) ≡ Ok y → x ≡ y
+    ok-same x y q = cc
+
+    at : (b : Bool) → only_if b (migrated m.new parts) (Refused (Later (net_file m.old))) ≡ Ok (outcome_in p) → IsEnd (outcome_in p)
+    at true e = let same : migrated m.new parts ≡ outcome_in p = ok-same (migrated m.new parts) (outcome_in p) e in subst IsEnd same (done-ends _ _)
+    at false e = let no : ⊥ = cc in absurd no
 
 -- what was made of the wiring and the cells as they were lent
 pub built-on : {T : Type 0} {made : T} {net mine : Net} {cells chips : List ChipCells} (build : Net → List ChipCells → T) → net ≡ mine → cells ≡ chips → made ≡ build net cells → made ≡ build mine chips

@@ -2,36 +2,44 @@
 use Rattle.std.proofs.Common.{ℕ, zero, suc, ◌≡◌, ◌+◌, List, [], ◌∷◌, ◌++◌, map, take, Option, Some, None, Err, refl, sym, subst, ap, ◌∙◌, inl}
 use Rattle.std.specs.Prelude.{slice_get}
 use Rattle.std.specs.Option.{option_map}
-use Rattle.mig_io.specs.Counts.{Counts}
+use Rattle.mig_io.specs.Counts.{Counts, NoneFell}
 use Rattle.mig_io.specs.Holding.{Held, SameBut, placed}
 use Rattle.answers.specs.declared.exit.Exit.{Exit}
-use Rattle.answers.specs.declared.exit.Exit.TheVariants.{Done, Usage, Refused, Missing, ReadFault, SaveFault, OutFault, Memory}
+use Rattle.answers.specs.Exits.{Class, class_of}
+use Rattle.answers.specs.Exits.Class.{Worded, Judged, Missed, Unread, Unsaved, Unsent, Wanting}
 use Rattle.palmig_top.specs.declared.saves.NewFile.{NewFile}
-use Rattle.palmig_top.specs.Verdict.{File}
-use Rattle.palmig_top.specs.Answer.{placed_all}
-use Rattle.palmig_top.specs.Saving.{SavesOne, SavesAll, file_of}
+use Rattle.verdicts.specs.Outcomes.{File}
+use Rattle.verdicts.specs.Answer.{placed_all}
+use Rattle.palmig_top.specs.Saving.{SavesOne, SavesAll, FailsOneAs, FailsAllAs, file_of}
+use Rattle.palmig_top.proofs.Chains.{rose-before}
 
 -- the first k files are in place, and the save of the next one failed
-pub stopped : (files : List File) (k : ℕ) (old mid new : Option Held) (before now : Counts) (name bytes : List ℕ) (e : Exit) →
-    mid ≡ option_map (placed_all (take k files)) old → slice_get files k ≡ Some (name, bytes) →
-    SavesOne name bytes mid new (Err e) → SavesAll files old new before now (Err e)
-stopped files k None mid new before now name bytes (SaveFault f) placed at saved = tt
-stopped files k (Some h) mid new before now name bytes (SaveFault f) placed at saved = (
-  k,
-  record {
-    bytes = bytes;
-    next = subst (λ n. slice_get files k ≡ Some (n, bytes)) (sym saved.0) at;
-    others = subst (λ n. SameBut n (Some (placed_all (take k files) h)) new) (sym saved.0) (subst (λ m. SameBut name m new) placed saved.1);
-  },
+stopped-as : (c : Class) (files : List File) (k : ℕ) (old mid new : Option Held) (start before now : Counts) (name bytes : List ℕ) → NoneFell start before →
+    mid ≡ option_map (placed_all (take k files)) old → slice_get files k ≡ Some (name, bytes) → FailsOneAs c name mid new before now → FailsAllAs c files old new start now
+stopped-as (Unsaved f) files k None mid new start before now name bytes fell placed at saved = (rose-before start.save_faults before.save_faults now.save_faults fell.save_faults saved.2, tt)
+stopped-as (Unsaved f) files k (Some h) mid new start before now name bytes fell placed at saved = (
+  rose-before start.save_faults before.save_faults now.save_faults fell.save_faults saved.2,
+  (
+    k,
+    record {
+      bytes = bytes;
+      next = subst (λ n. slice_get files k ≡ Some (n, bytes)) (sym saved.0) at;
+      others = subst (λ n. SameBut n (Some (placed_all (take k files) h)) new) (sym saved.0) (subst (λ m. SameBut name m new) placed saved.1);
+    },
+  ),
 )
-stopped files k None mid new before now name bytes Memory placed at saved = tt
-stopped files k (Some h) mid new before now name bytes Memory placed at saved = inl (k, saved ∙ placed)
-stopped files k old mid new before now name bytes Done placed at saved = saved
-stopped files k old mid new before now name bytes Usage placed at saved = saved
-stopped files k old mid new before now name bytes (Refused r) placed at saved = saved
-stopped files k old mid new before now name bytes (Missing f) placed at saved = saved
-stopped files k old mid new before now name bytes (ReadFault f) placed at saved = saved
-stopped files k old mid new before now name bytes OutFault placed at saved = saved
+stopped-as Wanting files k None mid new start before now name bytes fell placed at saved = tt
+stopped-as Wanting files k (Some h) mid new start before now name bytes fell placed at saved = inl (k, saved ∙ placed)
+stopped-as Worded files k old mid new start before now name bytes fell placed at saved = absurd saved
+stopped-as Judged files k old mid new start before now name bytes fell placed at saved = absurd saved
+stopped-as (Missed f) files k old mid new start before now name bytes fell placed at saved = absurd saved
+stopped-as (Unread f) files k old mid new start before now name bytes fell placed at saved = absurd saved
+stopped-as Unsent files k old mid new start before now name bytes fell placed at saved = absurd saved
+
+pub stopped : (files : List File) (k : ℕ) (old mid new : Option Held) (start before now : Counts) (name bytes : List ℕ) (e : Exit) → NoneFell start before →
+    mid ≡ option_map (placed_all (take k files)) old → slice_get files k ≡ Some (name, bytes) →
+    SavesOne name bytes mid new before now (Err e) → SavesAll files old new start now (Err e)
+stopped files k old mid new start before now name bytes e fell placed at saved = stopped-as (class_of e) files k old mid new start before now name bytes fell placed at saved
 
 pub same_held : (old : Option Held) (files : List File) → old ≡ option_map (placed_all (take 0 files)) old
 same_held None files = refl

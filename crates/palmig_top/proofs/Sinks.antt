@@ -7,8 +7,10 @@ use Rattle.mig_io.specs.Counts.{PutCauses}
 use Rattle.mig_io.specs.Holding.{Puts as PutsBytes}
 use Rattle.answers.specs.declared.exit.Exit.{Exit}
 use Rattle.answers.specs.declared.exit.Exit.TheVariants.{Done, OutFault, Memory}
+use Rattle.answers.specs.Exits.{class_of}
+use Rattle.answers.specs.Exits.Class.{Wanting}
 use Rattle.board.specs.Joined.{Joined}
-use Rattle.script_text.specs.declared.scripts.Script.{Script}
+use Rattle.mig_base.specs.declared.scripts.Script.{Script}
 use Rattle.shown_runs.specs.Sending.{PutsRun}
 use Rattle.palmig_top.specs.Concluding.{Sink, Puts, PutsShows}
 
@@ -19,7 +21,7 @@ put_answer answer (Err Failed) = OutFault
 put_answer answer (Err NoRoom) = Memory
 
 -- a text was put, or not
-pub text-put : (answer : Exit) (text : List ℕ) (out : Sink) (r : Result (Unit {0}) PutError) → answer ≢ Memory → PutsBytes out.sent out.after text r → PutCauses out.faults out.faults_after r →
+pub text-put : (answer : Exit) (text : List ℕ) (out : Sink) (r : Result (Unit {0}) PutError) → class_of answer ≢ Wanting → PutsBytes out.sent out.after text r → PutCauses out.faults out.faults_after r →
     Puts answer text out (put_answer answer r)
 text-put answer text out (Ok done) want p c = inl (refl, want, p.ok)
 text-put answer text out (Err Failed) want p c = inr (inl (refl, want, c.failed refl, p.failed refl))

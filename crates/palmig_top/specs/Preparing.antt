@@ -5,13 +5,13 @@ use Rattle.mig_base.specs.WellFormed.{IsWellFormed}
 use Rattle.new_board.specs.declared.types.FittedChip.{FittedChip}
 use Rattle.answers.specs.declared.shows.Counted.{Counted}
 use Rattle.board.specs.Joined.{Joined, equations_of, HasRank}
-use Rattle.palmig_top.specs.declared.prepare.Prepared.{Prepared}
-use Rattle.palmig_top.specs.Verdict.{Outcome}
+use Rattle.palmig_top.specs.declared.prepared.Prepared.{Prepared}
 use Rattle.palmig_top.specs.Saving.{file_of}
+use Rattle.verdicts.specs.Outcomes.{Outcome}
 
 -- as the outcome that it is
 abbrev pub outcome_in : Prepared → Outcome
-outcome_in p = record { saves = map file_of p.saves; report = p.report.items }
+outcome_in p = record { answer = p.answer; saves = map file_of p.saves; report = p.report.items }
 
 -- these are the numbers of a board
 pub record IsCounted (b : Joined) (counted : Counted) : Type 0 where

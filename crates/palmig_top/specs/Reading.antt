@@ -5,9 +5,9 @@ use Rattle.mig_base.specs.declared.cells.ChipCells.{ChipCells}
 use Rattle.mig_base.specs.declared.nets.Net.{Net}
 use Rattle.mig_base.specs.BoardText.{net_of_text}
 use Rattle.mig_base.specs.Cells.{cells_of}
-use Rattle.script_text.specs.declared.scripts.Script.{Script}
-use Rattle.script_text.specs.ScriptText.{ports_of, script_of_text}
-use Rattle.taken_boards.specs.TakenBoards.{AreMade}
+use Rattle.mig_base.specs.declared.scripts.Script.{Script}
+use Rattle.sim_run.specs.ScriptText.{ports_of, script_of_text}
+use Rattle.mig_base.specs.Given.{AreMade}
 use Rattle.board.specs.Joined.{Joined}
 
 -- some text says the wiring

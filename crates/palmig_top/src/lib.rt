@@ -2,13 +2,11 @@
 #![tactic(auto)]
 
 mod boards;
-mod checked;
-mod devices;
-mod listed;
+mod commands;
+mod concluding;
 mod loads;
-mod prepare;
+mod prepared;
 mod saves;
-mod scripts;
 mod telling;
 mod top;
 

@@ -2,14 +2,14 @@ ghost use Rattle.std.specs.Prelude.{◌≡◌, ◌≤◌, ◌++◌, ◌∷◌, [
 ghost use Rattle.std.specs.Option.{option_map};
 ghost use Rattle.mig_base.specs.Names.{file_name_of};
 ghost use Rattle.mig_base.specs.Limits.{most_file_bytes};
-ghost use Rattle.palmig_top.specs.Verdict.{loaded, wiring_of, wiring_held, chip_of, chip_held, chips_held, LoadsChips};
-ghost use Rattle.palmig_top.specs.HeldBoard.{net_file, jed_file};
-ghost use Rattle.palmig_top.specs.Steps.{StepGives, Says};
-ghost use Rattle.taken_boards.specs.TakenBoards.{AreMade};
+ghost use Rattle.verdicts.specs.HeldBoard.{net_file, jed_file};
+ghost use Rattle.verdicts.specs.JudgedBoard.{loaded, wiring_of, wiring_held, chip_of, chip_held, chips_held, LoadsChips};
+ghost use Rattle.palmig_top.specs.Steps.{Step, Finds};
+ghost use Rattle.mig_base.specs.Given.{AreMade};
 ghost use Rattle.palmig_top.specs.Reading.{IsReadWiring, IsReadCells};
 
-use crate::devices::cells;
 use answers::{Exit, Refusal};
+use chip_kinds::cells;
 use jed_text::read_jed;
 use mig_base::{
     ChipCells, ChipError, ChipLine, FileName, JedError, Kind, MOST_FILE_BYTES, Name, Net, NetError,
@@ -28,10 +28,8 @@ pub fn named(
 ) -> Result<FileName, Exit>
     ensures { MatchResult result (λ f. f ≡ file_name_of stem.now (option_map (λ c. c.now) chip.entry) ending.now) (λ e. e ≡ Exit.Memory) }
 {
-    match file_name(alloc, stem, chip, ending) {
-        Ok(name) => Ok(name),
-        Err(_) => Err(Exit::Memory),
-    }
+    let name = file_name(alloc, stem, chip, ending)?;
+    Ok(name)
 }
 
 /// A file that was loaded, with its name.
@@ -49,7 +47,7 @@ pub fn load<F: Files>(
     most: usize,
 ) -> Result<Loaded, Exit>
     requires { most ≤ 16777216 }
-    ensures step { StepGives (λ r. r.bytes.items) (λ h. loaded h most name) (λ h f. f ≡ name) (F.held files.old) (F.held files.new) (F.counts files.old) (F.counts files.new) result }
+    ensures step { Step (λ r. r.bytes.items) (λ h q. loaded h most name ≡ q) (λ h f. f ≡ name) (F.held files.old) (F.held files.new) (F.counts files.old) (F.counts files.new) result }
     ensures named { IfOk result (λ r. r.name ≡ name) }
     ensures short { IfOk result (λ r. vec_len r.bytes ≤ most) }
 {
@@ -70,7 +68,7 @@ pub fn load<F: Files>(
 /// The wiring in a board file.
 fn wiring_in(alloc: Global, file: Loaded) -> Result<Net, Exit>
     requires { vec_len file.bytes ≤ most_file_bytes }
-    ensures says { Says (λ net. net) (wiring_of file.name file.bytes.items) result }
+    ensures says { Finds (λ net. net) (λ q. wiring_of file.name file.bytes.items ≡ q) result }
     ensures read { IfOk result (λ net. IsReadWiring net) }
 {
     match read_net(alloc, &file.bytes) {
@@ -82,7 +80,7 @@ fn wiring_in(alloc: Global, file: Loaded) -> Result<Net, Exit>
 
 /// The cells of a chip of this kind in a fuse file.
 fn chip_in(alloc: Global, file: Loaded, kind: Kind) -> Result<ChipCells, Exit>
-    ensures says { Says (λ cells. cells) (chip_of file.name kind file.bytes.items) result }
+    ensures says { Finds (λ cells. cells) (λ q. chip_of file.name kind file.bytes.items ≡ q) result }
     ensures read { IfOk result (λ cells. IsReadCells kind cells) }
 {
     let fuses = match read_jed(alloc, &file.bytes) {
@@ -99,7 +97,7 @@ fn chip_in(alloc: Global, file: Loaded, kind: Kind) -> Result<ChipCells, Exit>
 
 /// The wiring of a board.
 pub fn read_wiring<F: Files>(alloc: Global, files: &mut F, stem: &Stem) -> Result<Net, Exit>
-    ensures step { StepGives (λ net. net) (λ h. wiring_held h stem.now) (λ h f. f ≡ net_file stem.now) (F.held files.old) (F.held files.new) (F.counts files.old) (F.counts files.new) result }
+    ensures step { Step (λ net. net) (λ h q. wiring_held h stem.now ≡ q) (λ h f. f ≡ net_file stem.now) (F.held files.old) (F.held files.new) (F.counts files.old) (F.counts files.new) result }
     ensures read { IfOk result (λ net. IsReadWiring net) }
 {
     let name = named(alloc, stem, None, "net")?;
@@ -114,7 +112,7 @@ pub fn read_chip<F: Files>(
     name: FileName,
     kind: Kind,
 ) -> Result<ChipCells, Exit>
-    ensures step { StepGives (λ cells. cells) (λ h. chip_held h name kind) (λ h f. f ≡ name) (F.held files.old) (F.held files.new) (F.counts files.old) (F.counts files.new) result }
+    ensures step { Step (λ cells. cells) (λ h q. chip_held h name kind ≡ q) (λ h f. f ≡ name) (F.held files.old) (F.held files.new) (F.counts files.old) (F.counts files.new) result }
     ensures read { IfOk result (λ cells. IsReadCells kind cells) }
 {
     let file = load(alloc, files, name, MOST_FILE_BYTES)?;
@@ -128,7 +126,7 @@ fn read_chip_of<F: Files>(
     stem: &Stem,
     line: &ChipLine,
 ) -> Result<ChipCells, Exit>
-    ensures step { StepGives (λ cells. cells) (λ h. chip_held h (jed_file stem.now line.now.name) line.now.kind) (λ h f. f ≡ jed_file stem.now line.now.name)
+    ensures step { Step (λ cells. cells) (λ h q. chip_held h (jed_file stem.now line.now.name) line.now.kind ≡ q) (λ h f. f ≡ jed_file stem.now line.now.name)
         (F.held files.old) (F.held files.new) (F.counts files.old) (F.counts files.new) result }
     ensures read { IfOk result (λ cells. IsReadCells line.now.kind cells) }
 {
@@ -140,10 +138,8 @@ fn read_chip_of<F: Files>(
 fn add_chip(chips: &mut Vec<ChipCells>, cells: ChipCells) -> Result<(), Exit>
     ensures { MatchResult result (λ _. chips.new.items ≡ chips.old.items ++ cells ∷ []) (λ e. e ≡ Exit.Memory) }
 {
-    match chips.push(cells) {
-        Ok(()) => Ok(()),
-        Err(_) => Err(Exit::Memory),
-    }
+    chips.push(cells)?;
+    Ok(())
 }
 
 /// The cells of each chip of a board.
@@ -153,7 +149,7 @@ pub fn read_chips<F: Files>(
     stem: &Stem,
     lines: &[ChipLine],
 ) -> Result<Vec<ChipCells>, Exit>
-    ensures step { StepGives (λ v. v.items) (λ h. chips_held h stem.now lines.now) (λ h f. LoadsChips h stem.now lines.now f) (F.held files.old) (F.held files.new) (F.counts files.old) (F.counts files.new) result }
+    ensures step { Step (λ v. v.items) (λ h q. chips_held h stem.now lines.now ≡ q) (λ h f. LoadsChips h stem.now lines.now f) (F.held files.old) (F.held files.new) (F.counts files.old) (F.counts files.new) result }
     ensures read { IfOk result (λ v. AreMade lines.now v.items) }
 {
     let mut chips = Vec::new(alloc);

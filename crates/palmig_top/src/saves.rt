@@ -1,6 +1,5 @@
-ghost use Rattle.std.specs.Prelude.{◌≡◌, ℕ, List, Option, IfErr, map};
+ghost use Rattle.std.specs.Prelude.{◌≡◌, ℕ, List, Option, map};
 ghost use Rattle.mig_io.specs.Counts.{NoneFell};
-ghost use Rattle.palmig_top.specs.Answer.{IsCaused};
 ghost use Rattle.palmig_top.specs.Saving.{SavesOne, SavesAll, file_of};
 
 use answers::Exit;
@@ -17,13 +16,10 @@ pub struct NewFile {
 
 /// Saves one file.
 fn save_one<F: Files>(alloc: Global, files: &mut F, file: &NewFile) -> Result<(), Exit>
-    ensures held { SavesOne file.now.name file.now.bytes.items (F.held files.old) (F.held files.new) result }
+    ensures held { SavesOne file.now.name file.now.bytes.items (F.held files.old) (F.held files.new) (F.counts files.old) (F.counts files.new) result }
     ensures later { NoneFell (F.counts files.old) (F.counts files.new) }
-    ensures causes { IfErr result (λ e. IsCaused (F.counts files.old) (F.counts files.new) e) }
 {
-    let Ok(name) = file.name.copy(alloc) else {
-        return Err(Exit::Memory);
-    };
+    let name = file.name.copy(alloc)?;
     match files.save(alloc, &name, &file.bytes) {
         Ok(()) => Ok(()),
         Err(SaveError::Failed) => Err(Exit::SaveFault(name)),
@@ -35,7 +31,6 @@ fn save_one<F: Files>(alloc: Global, files: &mut F, file: &NewFile) -> Result<()
 pub fn save_all<F: Files>(alloc: Global, files: &mut F, saves: &[NewFile]) -> Result<(), Exit>
     ensures held { SavesAll (map file_of saves.now) (F.held files.old) (F.held files.new) (F.counts files.old) (F.counts files.new) result }
     ensures later { NoneFell (F.counts files.old) (F.counts files.new) }
-    ensures causes { IfErr result (λ e. IsCaused (F.counts files.old) (F.counts files.new) e) }
 {
     for file in saves {
         save_one(alloc, files, file)?;

@@ -1,1 +1,3 @@
 pub mod PlanSize
+pub mod PlanText
+pub mod Statements

@@ -1,7 +1,8 @@
-ghost use Rattle.std.specs.Prelude.{◌≡◌, ◌++◌, ◌≤◌, map, length, IfOk, OnOk, string_bytes};
+ghost use Rattle.std.specs.Prelude.{◌≡◌, ◌++◌, ◌≤◌, map, length, IfOk, OnOk, string_bytes, Ok};
 ghost use Rattle.std.specs.List.{flat_map};
 ghost use Rattle.mig_base.specs.Limits.{most_file_bytes};
 ghost use Rattle.plan_text.specs.PlanSize.{IsShort};
+ghost use Rattle.plan_text.specs.PlanText.{plan_of_text, IsPlan};
 ghost use Rattle.mig_base.specs.WrittenBoard.{written_line};
 ghost use Rattle.mig_base.specs.WrittenPlan.{written_plan, plan_chip_line, plan_line};
 
@@ -9,10 +10,11 @@ use mig_base::{Mode, NoMemory, Plan, PlanChip, PlanLine, kind_text};
 use std::alloc::{AllocError, Global};
 
 /// The text of a plan: the version, the chips, the place and absorb lines in the plan's order, and the end.
-/// A short plan fits a file. Fails for want of memory alone.
+/// A short plan fits a file, and a plan that a text can give is read back. Fails for want of memory alone.
 pub fn write_plan(alloc: Global, plan: &Plan) -> Result<Vec<u8>, NoMemory>
     ensures written { IfOk result (λ text. text.items ≡ written_plan plan.now) }
     ensures fits { IsShort plan.now → IfOk result (λ text. length text.items ≤ most_file_bytes) }
+    ensures read_back { IsPlan plan.now → IfOk result (λ text. plan_of_text text.items ≡ Ok plan.now) }
 {
     let mut text = String::from_str(alloc, "plan 1\n")?;
     write_chips(&mut text, plan.chips.items())?;

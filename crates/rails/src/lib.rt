@@ -109,16 +109,20 @@ impl Rails {
 
     /// The variables, each with whether it is pure, in order.
     pub fn vars(&self) -> &[(Var, bool)]
-        ensures { result.now ≡ self.now.vars }
+        ensures vars { result.now ≡ self.now.vars }
+        ensures canonical { IsCanonical self.now.graph }
     {
+        let _count = self.graph.vars();
         self.vars.as_slice()
     }
 
     /// Lends the graph.
     pub fn graph(&mut self) -> &mut Graph
         ensures graph { result.now ≡ self.entry.now.graph }
+        ensures canonical { IsCanonical result.now }
         ensures* lends { sem 𝓛 (Lends the_row graph_type.the_row self.entry result (λ g. record { graph = g; vars = self.entry.now.vars })) }
     {
+        let _count = self.graph.vars();
         &mut self.graph
     }
 
@@ -129,7 +133,9 @@ impl Rails {
         requires plain { IfSome (slice_get (rails_in self.now.vars) place) (λ r. MayStand r.side plain) }
         ensures literal { IfSome (slice_get (rails_in self.now.vars) place) (λ r. result ≡ literal_of r plain) }
         ensures means { (p : Point) → literal_holds (rails_in self.now.vars) result p ≡ same_bool plain (p place) }
+        ensures canonical { IsCanonical self.now.graph }
     {
+        let _count = self.graph.vars();
         let rail = self.rails[place as usize];
         VarLit {
             var: rail.var,
@@ -211,8 +217,11 @@ impl Rails {
         requires fit { IsFit self.now }
         requires valid { IsValid self.now.graph f }
         requires levels { AreLevels self.now.vars levels.now }
-        ensures { result ≡ value_under (rails_in self.now.vars) (function_of self.now.graph f) levels.now }
+        ensures value { result ≡ value_under (rails_in self.now.vars) (function_of self.now.graph f) levels.now }
+        ensures fit { IsFit self.now }
+        ensures canonical { IsCanonical self.now.graph }
     {
+        let _count = self.graph.vars();
         let rails = self.rails.as_slice();
         let surely = values::holds_under(&self.graph, rails, f, levels, false);
         let maybe = values::holds_under(&self.graph, rails, f, levels, true);

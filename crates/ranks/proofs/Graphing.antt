@@ -1,5 +1,5 @@
 -- The nodes of a board, and lists of what they read and by which they are read.
-use Rattle.std.proofs.Common.{ℕ, zero, suc, ◌≡◌, ◌⊎◌, ◌<◌, ◌≤◌, ◌+◌, List, [], ◌∷◌, ◌++◌, map, length, replicate, Option, Some, None, refl, sym, ap, ◌∙◌, subst, arith, inl, inr}
+use Rattle.std.proofs.Common.{ℕ, zero, suc, ◌≡◌, ◌⊎◌, ◌+◌, List, [], ◌∷◌, ◌++◌, map, length, replicate, Option, Some, None, refl, sym, ap, ◌∙◌, subst, arith, inl, inr}
 use Rattle.std.specs.Prelude.{slice_get}
 use Rattle.std.proofs.Math.ListN.{get_or}
 use Rattle.std.proofs.lemmas.List.{length-replicate, append_assoc}
@@ -9,14 +9,14 @@ use Rattle.mig_base.specs.declared.circuit.Register.{Register}
 use Rattle.mig_base.specs.declared.circuit.Wire.{Wire}
 use Rattle.mig_base.specs.declared.circuit.Circuit.{Circuit}
 use Rattle.mig_base.specs.First.{made_from}
-use Rattle.mig_base.specs.Accepted.{Among}
+use Rattle.mig_base.specs.Among.{Among}
 use Rattle.mig_base.specs.Reads.{node_reads, wire_reads, reads_of_wire, reads_of_register}
 use Rattle.mig_base.specs.Values.{row_reads}
 use Rattle.ranks.specs.declared.neighbours.Neighbours.{Neighbours}
 use Rattle.ranks.specs.Neighbours.{neighbours_at, IsListed, IsAdded}
 use Rattle.ranks.specs.Graphs.{AllRead, ReadBy, AddsReader}
-use Rattle.ranks.specs.Order.{IsNode}
-use Rattle.ranks.proofs.Amongs.{among-left, among-right, among-split}
+use Rattle.mig_base.specs.Reads.{IsNode}
+use Rattle.mig_base.proofs.Amongs.{among-left, among-right, among-split}
 
 pub made-more : {T : Type 0} (f : ℕ → T) (first n : ℕ) → made_from f first n ++ f (first + n) ∷ [] ≡ made_from f first (suc n)
 made-more {T = T} f first zero = ap (λ (k : ℕ). f k ∷ []) (omega arith)

@@ -1,5 +1,6 @@
+pub mod Pigeons
+pub mod NoLoops
 pub mod RankLaws
-pub mod Amongs
 pub mod OrderOfRanks
 pub mod Putting
 pub mod Graphing
@@ -9,3 +10,5 @@ pub mod Reaching
 pub mod WayLaws
 pub mod LoopLaws
 pub mod Finishing
+pub mod OneRanks
+pub mod OneLoop

@@ -1,19 +1,19 @@
 -- The way home, step by step.
-use Rattle.std.proofs.Common.{ℕ, zero, suc, ◌≡◌, ◌⊎◌, ◌<◌, ◌≤◌, ◌+◌, List, [], ◌∷◌, ◌++◌, length, take, drop, get_or, Option, Some, None, refl, sym, ap, ◌∙◌, subst, arith, inl, inr}
+use Rattle.std.proofs.Common.{ℕ, suc, ◌≡◌, ◌⊎◌, ◌<◌, ◌≤◌, ◌+◌, List, [], ◌∷◌, ◌++◌, length, take, drop, get_or, Option, Some, None, refl, sym, ap, ◌∙◌, subst, arith, inl, inr}
 use Rattle.std.proofs.lemmas.Bool.{cases_lt, cases_eq}
 use Rattle.std.proofs.lemmas.List.{append_assoc, append-nil, length-append, take-append-drop, drop_more}
 use Rattle.mig_base.specs.declared.circuit.Read.{Read}
 use Rattle.mig_base.specs.declared.circuit.Circuit.{Circuit}
-use Rattle.mig_base.specs.Accepted.{Among, Walk}
+use Rattle.mig_base.specs.Accepted.{Walk}
+use Rattle.mig_base.specs.Among.{Among}
 use Rattle.mig_base.specs.Reads.{node_reads}
 use Rattle.mig_base.specs.Structure.{all_variables}
 use Rattle.ranks.specs.declared.marks.Marks.{Marks}
-use Rattle.ranks.specs.FirstLoop.{IsFirst, IsOnLoop, IsShortest, GoesHome, IsLoopFrom, IsFirstLoop}
-use Rattle.ranks.specs.Marked.{mark_in, IsWaiting}
-use Rattle.ranks.specs.Order.{IsNode}
+use Rattle.ranks.specs.FirstLoop.{IsFirst, IsOnLoop, IsShortest, GoesHome, IsFirstLoop}
+use Rattle.ranks.specs.Marked.{mark_in}
 use Rattle.ranks.specs.Ways.{IsWayHome, IsStep, IsLoopBack}
-use Rattle.ranks.proofs.Amongs.{node-among}
-use Rattle.ranks.proofs.Marking.{node-within, node-marked}
+use Rattle.mig_base.proofs.Amongs.{node-among}
+use Rattle.ranks.proofs.Marking.{node-marked}
 use Rattle.ranks.proofs.WayLaws.{walk-node}
 
 -- so far on the way from home: the last node has so many steps left, and each way home from there makes a whole one

@@ -1,16 +1,16 @@
 -- Numbers given to nodes.
-use Rattle.std.proofs.Common.{ℕ, zero, suc, ◌≡◌, ◌⊎◌, ◌<◌, ◌≤◌, ◌+◌, List, [], ◌∷◌, length, replicate, Option, Some, None, refl, sym, ap, ◌∙◌, subst, arith, inl, inr}
+use Rattle.std.proofs.Common.{ℕ, zero, suc, ◌≡◌, ◌⊎◌, ◌<◌, ◌≤◌, ◌+◌, List, [], ◌∷◌, length, replicate, Option, Some, None, refl, ap, arith, inl, inr}
 use Rattle.std.specs.Prelude.{slice_get}
 use Rattle.std.proofs.Math.ListN.{set}
 use Rattle.std.proofs.lemmas.Bool.{cases_eq}
-use Rattle.std.proofs.lemmas.List.{length-set, length-replicate}
+use Rattle.std.proofs.lemmas.List.{length-set}
 use Rattle.std.proofs.lemmas.Option.{slice_get_within}
 use Rattle.mig_base.specs.declared.circuit.Read.{Read}
 use Rattle.mig_base.specs.declared.circuit.Read.TheVariants.{OfNet, OfRegister}
 use Rattle.mig_base.specs.declared.circuit.Circuit.{Circuit}
 use Rattle.ranks.specs.declared.marks.Marks.{Marks}
-use Rattle.ranks.specs.Marked.{mark_in, number_of, number_in, IsWaiting, with_mark, unmarked_of, blank, blanks, waiting}
-use Rattle.ranks.specs.Order.{IsNode}
+use Rattle.ranks.specs.Marked.{mark_in, IsWaiting, with_mark, unmarked_of, blank, blanks, waiting}
+use Rattle.mig_base.specs.Reads.{IsNode}
 
 abbrev pub net-of : Read → ℕ
 net-of (OfNet n) = n

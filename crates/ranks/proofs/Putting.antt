@@ -1,5 +1,5 @@
 -- Nodes put into lists.
-use Rattle.std.proofs.Common.{ℕ, zero, suc, ◌≡◌, ◌⊎◌, ◌<◌, ◌≤◌, ◌+◌, ◌-◌, List, [], ◌∷◌, ◌++◌, map, length, replicate, refl, sym, ap, ◌∙◌, subst, arith, inl, inr}
+use Rattle.std.proofs.Common.{ℕ, zero, suc, ◌≡◌, ◌⊎◌, ◌<◌, List, [], ◌∷◌, ◌++◌, map, length, refl, sym, ap, ◌∙◌, subst, arith, inl, inr}
 use Rattle.std.specs.Prelude.{Vec, Result, Ok, Err, OnOk}
 use Rattle.std.specs.declared.alloc.Global.{Global}
 use Rattle.std.proofs.Math.ListN.{set, get_or}
@@ -7,10 +7,10 @@ use Rattle.std.proofs.lemmas.Bool.{cases_eq}
 use Rattle.std.proofs.lemmas.List.{map-set, get_or-map, get_or-set_same, get_or-set_other, length-set}
 use Rattle.mig_base.specs.declared.circuit.Read.{Read}
 use Rattle.mig_base.specs.declared.circuit.Read.TheVariants.{OfNet, OfRegister}
-use Rattle.mig_base.specs.Accepted.{Among}
+use Rattle.mig_base.specs.Among.{Among}
 use Rattle.ranks.specs.declared.neighbours.Neighbours.{Neighbours}
-use Rattle.ranks.specs.Neighbours.{IsPut, IsAdded, IsListed, neighbours_at}
-use Rattle.ranks.proofs.Amongs.{among-left, among-right, among-split}
+use Rattle.ranks.specs.Neighbours.{IsPut, IsAdded, neighbours_at}
+use Rattle.mig_base.proofs.Amongs.{among-left, among-right, among-split}
 
 abbrev pub contents : List (Vec Read Global) → List (List Read)
 contents lists = map (λ list. list.items) lists

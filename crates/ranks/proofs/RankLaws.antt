@@ -1,5 +1,5 @@
 -- Ranks fall along reads, and the nodes by rank are in an order of evaluation.
-use Rattle.std.proofs.Common.{ℕ, zero, suc, ◌≡◌, ◌⊎◌, ◌<◌, ◌≤◌, ◌+◌, max, List, [], ◌∷◌, ◌++◌, map, Option, Some, None, refl, sym, ap, ◌∙◌, subst, arith, inl, inr}
+use Rattle.std.proofs.Common.{ℕ, zero, suc, ◌≡◌, ◌<◌, ◌≤◌, ◌+◌, max, List, [], ◌∷◌, ◌++◌, map, Option, Some, None, refl, sym, ap, ◌∙◌, subst, arith}
 use Rattle.std.specs.Prelude.{slice_get, slice_index_or}
 use Rattle.std.specs.List.{AllByRecursion}
 use Rattle.std.proofs.Math.Nat.{le-max_left, le-max_right}
@@ -10,7 +10,7 @@ use Rattle.mig_base.specs.declared.circuit.Wire.{Wire}
 use Rattle.mig_base.specs.declared.circuit.Circuit.{Circuit}
 use Rattle.mig_base.specs.Reads.{node_reads, wire_reads, reads_of_wire, reads_of_register}
 use Rattle.mig_base.specs.Values.{row_reads}
-use Rattle.settle.specs.Settled.{Ranked}
+use Rattle.mig_base.specs.Ranked.{Ranked}
 use Rattle.ranks.specs.declared.Ranks.{Ranks}
 use Rattle.ranks.specs.RankEquations.{greatest, above, if_driven, wire_rank, register_rank, or_zero, rank_rule, rank_in, IsRanks}
 

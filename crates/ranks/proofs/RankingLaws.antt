@@ -1,5 +1,5 @@
 -- Ranks stay right as nodes get theirs.
-use Rattle.std.proofs.Common.{ℕ, zero, suc, ◌≡◌, ◌⊎◌, ◌<◌, ◌≤◌, ◌+◌, ◌-◌, max, Bool, true, false, List, [], ◌∷◌, ◌++◌, map, take, length, Option, Some, None, refl, sym, ap, ◌∙◌, subst, arith, inl, inr}
+use Rattle.std.proofs.Common.{ℕ, zero, suc, ◌≡◌, ◌⊎◌, ◌≤◌, ◌+◌, ◌-◌, max, true, false, List, [], ◌∷◌, ◌++◌, map, take, length, Option, Some, None, refl, sym, ap, ◌∙◌, subst, arith, inl, inr}
 use Rattle.std.specs.Prelude.{slice_get, ◌==◌}
 use Rattle.std.specs.List.{AllByRecursion, flat_map}
 use Rattle.std.proofs.lemmas.Bool.{eqb-true}
@@ -12,14 +12,14 @@ use Rattle.mig_base.specs.declared.circuit.Circuit.{Circuit}
 use Rattle.mig_base.specs.Reads.{node_reads, wire_reads, driver_reads, reads_of_wire, reads_of_register}
 use Rattle.mig_base.specs.Values.{row_reads}
 use Rattle.mig_base.specs.Structure.{all_variables}
-use Rattle.settle.proofs.Unique.{all_mono}
+use Rattle.ranks.proofs.NoLoops.{all_mono}
 use Rattle.ranks.specs.declared.marks.Marks.{Marks}
-use Rattle.ranks.specs.Marked.{mark_in, number_of, number_in, ready, IsWaiting, with_mark, unmarked_of, blanks, waiting}
+use Rattle.ranks.specs.Marked.{mark_in, number_of, number_in, ready, IsWaiting, with_mark, unmarked_of, waiting}
 use Rattle.ranks.specs.RankEquations.{greatest, above, if_driven, wire_rank, register_rank, or_zero, rank_rule}
-use Rattle.ranks.specs.Order.{IsNode}
-use Rattle.ranks.specs.Ranking.{AreReady, IsBlocked, IsRankOf, IsRanking, IsPassed, IsStuck, undriven, wire_undriven}
+use Rattle.mig_base.specs.Reads.{IsNode}
+use Rattle.ranks.specs.Ranking.{AreReady, IsRankOf, IsRanking, IsPassed, IsStuck, undriven, wire_undriven}
 use Rattle.ranks.proofs.Marking.{cases-read, mark-same, mark-other, lengths-marked, waiting-marked, blanks-most, unmarked-none, node-within}
-use Rattle.ranks.proofs.Amongs.{among-all, node-among}
+use Rattle.mig_base.proofs.Amongs.{among-all, node-among}
 
 same-map : (f g : Read → ℕ) (reads : List Read) → AllByRecursion (λ w. f w ≡ g w) reads → map f reads ≡ map g reads
 same-map f g [] h = refl

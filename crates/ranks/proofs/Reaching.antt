@@ -1,12 +1,12 @@
 -- Nodes tried one behind another.
-use Rattle.std.proofs.Common.{ℕ, zero, suc, ◌≡◌, ◌⊎◌, ◌<◌, ◌≤◌, ◌+◌, List, [], ◌∷◌, ◌++◌, length, Option, Some, None, refl, sym, ap, ◌∙◌, subst, arith, inl, inr}
+use Rattle.std.proofs.Common.{ℕ, ◌≡◌, ◌⊎◌, ◌+◌, List, [], ◌∷◌, ◌++◌, length, Some, None, refl, sym, ap, ◌∙◌, subst, arith, inl, inr}
 use Rattle.std.proofs.lemmas.List.{length-append}
 use Rattle.mig_base.specs.declared.circuit.Read.{Read}
-use Rattle.mig_base.specs.Accepted.{Among}
+use Rattle.mig_base.specs.Among.{Among}
 use Rattle.ranks.specs.declared.marks.Marks.{Marks}
 use Rattle.ranks.specs.Marked.{mark_in, number_of, IsWaiting, with_mark, waiting}
 use Rattle.ranks.specs.Ways.{IsReached}
-use Rattle.ranks.proofs.Amongs.{among-left, among-right, among-split}
+use Rattle.mig_base.proofs.Amongs.{among-left, among-right, among-split}
 use Rattle.ranks.proofs.Marking.{cases-read, mark-same, mark-other, lengths-marked, waiting-marked}
 
 pub reached-none : (steps : ℕ) (m : Marks) (before : List Read) → IsReached [] steps m before m before

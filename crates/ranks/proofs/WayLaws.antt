@@ -1,5 +1,5 @@
 -- Shortest walks home, level by level.
-use Rattle.std.proofs.Common.{ℕ, zero, suc, ◌≡◌, ◌⊎◌, ◌<◌, ◌≤◌, ◌+◌, List, [], ◌∷◌, ◌++◌, length, Option, Some, None, refl, sym, ap, ◌∙◌, subst, arith, inl, inr}
+use Rattle.std.proofs.Common.{ℕ, zero, suc, ◌≡◌, ◌⊎◌, ◌<◌, ◌≤◌, ◌+◌, List, [], ◌∷◌, length, Option, Some, None, refl, sym, ap, ◌∙◌, subst, arith, inl, inr}
 use Rattle.std.specs.Prelude.{slice_get}
 use Rattle.std.specs.List.{flat_map}
 use Rattle.std.proofs.lemmas.Bool.{cases_lt, cases_eq}
@@ -10,19 +10,19 @@ use Rattle.mig_base.specs.declared.circuit.Read.TheVariants.{OfNet, OfRegister}
 use Rattle.mig_base.specs.declared.circuit.Register.{Register}
 use Rattle.mig_base.specs.declared.circuit.Wire.{Wire}
 use Rattle.mig_base.specs.declared.circuit.Circuit.{Circuit}
-use Rattle.mig_base.specs.Accepted.{Among, Walk}
+use Rattle.mig_base.specs.Accepted.{Walk}
+use Rattle.mig_base.specs.Among.{Among}
 use Rattle.mig_base.specs.Reads.{node_reads, reads_of_wire, reads_of_register}
-use Rattle.mig_base.specs.Structure.{all_variables}
 use Rattle.ranks.specs.declared.marks.Marks.{Marks}
 use Rattle.ranks.specs.declared.graph.Graph.{Graph}
 use Rattle.ranks.specs.FirstLoop.{IsShortest}
 use Rattle.ranks.specs.Graphs.{IsGraph}
 use Rattle.ranks.specs.Marked.{mark_in, IsWaiting, unmarked_of, waiting}
 use Rattle.ranks.specs.Neighbours.{neighbours_at}
-use Rattle.ranks.specs.Order.{IsNode}
+use Rattle.mig_base.specs.Reads.{IsNode}
 use Rattle.ranks.specs.Ways.{IsReached, Path, IsWays, IsAt, IsFrontier, IsWayHome}
-use Rattle.ranks.proofs.Amongs.{among-left, among-right, among-split, node-among}
-use Rattle.ranks.proofs.Marking.{node-within, node-marked, none-waiting, unmarked-none, blanks-most}
+use Rattle.mig_base.proofs.Amongs.{among-left, among-right, among-split, node-among}
+use Rattle.ranks.proofs.Marking.{node-marked, none-waiting, unmarked-none, blanks-most}
 
 -- a node that reads anything is one of the board
 pub reader-node : (c : Circuit) (v w : Read) → Among w (node_reads c v) → IsNode c v

@@ -1,14 +1,14 @@
 -- The nodes of a board, what they read and by which they are read.
-use Rattle.std.specs.Prelude.{ℕ, ◌≡◌, ◌⊎◌, ◌<◌, ◌+◌, ◌^◌, List, [], length}
+use Rattle.std.specs.Prelude.{◌≡◌, ◌⊎◌, ◌<◌, ◌+◌, ◌^◌, List, length}
 use Rattle.mig_base.specs.declared.circuit.Read.{Read}
 use Rattle.mig_base.specs.declared.circuit.Circuit.{Circuit}
-use Rattle.mig_base.specs.Accepted.{Among}
+use Rattle.mig_base.specs.Among.{Among}
 use Rattle.mig_base.specs.Reads.{node_reads}
 use Rattle.mig_base.specs.Structure.{all_variables}
 use Rattle.ranks.specs.declared.neighbours.Neighbours.{Neighbours}
 use Rattle.ranks.specs.declared.graph.Graph.{Graph}
 use Rattle.ranks.specs.Neighbours.{neighbours_at, IsListed}
-use Rattle.ranks.specs.Order.{IsNode}
+use Rattle.mig_base.specs.Reads.{IsNode}
 
 -- what each node reads
 pub record AllRead (c : Circuit) (reads : Neighbours) : Type 0 where

@@ -1,16 +1,11 @@
 -- An order of evaluation: every node once, behind all nodes that it reads.
-use Rattle.std.specs.Prelude.{◌<◌, List, [], ◌∷◌, length}
+use Rattle.std.specs.Prelude.{List, [], ◌∷◌}
 use Rattle.std.specs.List.{AllByRecursion}
 use Rattle.mig_base.specs.declared.circuit.Read.{Read}
-use Rattle.mig_base.specs.declared.circuit.Read.TheVariants.{OfNet, OfRegister}
 use Rattle.mig_base.specs.declared.circuit.Circuit.{Circuit}
-use Rattle.mig_base.specs.Accepted.{Among}
+use Rattle.mig_base.specs.Among.{Among}
 use Rattle.mig_base.specs.Reads.{node_reads}
-
--- a net or a register of the board
-abbrev pub IsNode : Circuit → Read → Type 0
-IsNode c (OfNet n) = n < length c.nets
-IsNode c (OfRegister k) = k < length c.registers
+use Rattle.mig_base.specs.Reads.{IsNode}
 
 -- behind those before, each is new and reads only such nodes of the board as stand before it
 abbrev pub GoesOn : Circuit → List Read → List Read → Type 0

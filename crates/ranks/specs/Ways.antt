@@ -1,8 +1,9 @@
 -- Shortest walks to one node.
-use Rattle.std.specs.Prelude.{ℕ, zero, suc, ◌≡◌, ◌⊎◌, ◌<◌, ◌+◌, List, [], ◌∷◌, length, Some}
+use Rattle.std.specs.Prelude.{ℕ, zero, suc, ◌≡◌, ◌⊎◌, ◌<◌, ◌+◌, List, ◌∷◌, length, Some}
 use Rattle.mig_base.specs.declared.circuit.Read.{Read}
 use Rattle.mig_base.specs.declared.circuit.Circuit.{Circuit}
-use Rattle.mig_base.specs.Accepted.{Among, Walk}
+use Rattle.mig_base.specs.Accepted.{Walk}
+use Rattle.mig_base.specs.Among.{Among}
 use Rattle.ranks.specs.declared.marks.Marks.{Marks}
 use Rattle.ranks.specs.FirstLoop.{IsShortest, GoesHome}
 use Rattle.ranks.specs.Marked.{mark_in, IsWaiting, waiting}

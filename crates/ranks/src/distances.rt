@@ -2,7 +2,7 @@ ghost use Rattle.std.specs.Prelude.{◌≡◌, ◌∷◌, [], IfOk, OnOk};
 ghost use Rattle.std.specs.List.{flat_map};
 ghost use Rattle.ranks.specs.Graphs.{IsGraph};
 ghost use Rattle.ranks.specs.Neighbours.{neighbours_at};
-ghost use Rattle.ranks.specs.Order.{IsNode};
+ghost use Rattle.mig_base.specs.Reads.{IsNode};
 ghost use Rattle.ranks.specs.Ways.{IsReached, IsWayHome};
 
 use crate::graph::Graph;

@@ -1,13 +1,13 @@
 //! The ranks of a board's nodes, an order of evaluation, and the loop of a board that has none.
 #![tactic(auto)]
 
-ghost use Rattle.std.specs.Prelude.{ℕ, ◌≡◌, ◌<◌, ◌+◌, ◌^◌, true, length, IfOk, IfErr};
+ghost use Rattle.std.specs.Prelude.{ℕ, ◌≡◌, ◌<◌, ◌+◌, ◌^◌, true, List, length, IfOk, IfErr};
 ghost use Rattle.mig_base.specs.declared.circuit.Circuit.{Circuit as CircuitOf};
 ghost use Rattle.mig_base.specs.declared.circuit.Read.{Read as ReadOf};
 ghost use Rattle.mig_base.specs.Accepted.{Walk};
-ghost use Rattle.settle.specs.Settled.{Ranked};
+ghost use Rattle.mig_base.specs.Ranked.{Ranked};
 ghost use Rattle.ranks.specs.declared.Ranks.{Ranks as RanksOf};
-ghost use Rattle.ranks.specs.FirstLoop.{IsRefusal};
+ghost use Rattle.ranks.specs.FirstLoop.{IsFirstLoop, IsRefusal};
 ghost use Rattle.ranks.specs.Order.{IsOrder};
 ghost use Rattle.ranks.specs.RankEquations.{IsRanks, rank_in};
 
@@ -96,4 +96,14 @@ pub fn ranks_rule_out_loops()
 /// The nodes by rank are in an order of evaluation.
 pub fn order_is_evaluation()
     ensures { (c : CircuitOf) (r : RanksOf) → IsRanks c r → IsOrder c r.order }
+{}
+
+/// A board's nodes have only one set of ranks.
+pub fn ranks_are_unique()
+    ensures { (c : CircuitOf) (r s : RanksOf) → IsRanks c r → IsRanks c s → r ≡ s }
+{}
+
+/// Only one loop is reported of a board.
+pub fn first_loop_is_unique()
+    ensures { (c : CircuitOf) (one other : List ReadOf) → IsFirstLoop c one → IsFirstLoop c other → one ≡ other }
 {}

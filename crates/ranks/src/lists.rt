@@ -1,5 +1,5 @@
 ghost use Rattle.std.specs.Prelude.{◌≡◌, ◌<◌, ◌++◌, ◌∷◌, [], true, false, length, replicate, slice_index_or, IfOk, OnOk};
-ghost use Rattle.mig_base.specs.Accepted.{Among};
+ghost use Rattle.mig_base.specs.Among.{Among};
 ghost use Rattle.ranks.specs.Neighbours.{IsPut};
 
 use mig_base::{NoMemory, Read};

@@ -1,10 +1,10 @@
 ghost use Rattle.std.specs.Prelude.{◌≡◌, true, false, Some, IfOk, IfSome, IfNone};
 ghost use Rattle.mig_base.specs.declared.circuit.Read.{Read as ReadOf};
-ghost use Rattle.mig_base.specs.Accepted.{Among};
+ghost use Rattle.mig_base.specs.Among.{Among};
 ghost use Rattle.ranks.specs.FirstLoop.{IsFirst, IsFirstLoop, IsOnLoop};
 ghost use Rattle.ranks.specs.Graphs.{IsGraph};
 ghost use Rattle.ranks.specs.Marked.{mark_in};
-ghost use Rattle.ranks.specs.Order.{IsNode};
+ghost use Rattle.mig_base.specs.Reads.{IsNode};
 ghost use Rattle.ranks.specs.Ranking.{IsRanking};
 ghost use Rattle.ranks.specs.Ways.{IsWayHome, IsStep, IsLoopBack};
 

@@ -3,7 +3,7 @@ ghost use Rattle.mig_base.specs.Reads.{node_reads};
 ghost use Rattle.ranks.specs.Graphs.{IsGraph};
 ghost use Rattle.ranks.specs.Marked.{number_in, waiting};
 ghost use Rattle.ranks.specs.RankEquations.{greatest};
-ghost use Rattle.ranks.specs.Order.{IsNode};
+ghost use Rattle.mig_base.specs.Reads.{IsNode};
 ghost use Rattle.mig_base.specs.declared.circuit.Read.{Read as ReadOf};
 ghost use Rattle.ranks.specs.Ranking.{AreReady, IsBlocked, IsRanking, IsStuck, IsRankOf, IsRanked, IsPassed, undriven};
 

@@ -22,8 +22,8 @@ use Rattle.mig_base.specs.Resolve.{resolved}
 use Rattle.mig_base.specs.Values.{source_level, literal_value, inverted, row_value}
 use Rattle.mig_base.specs.Accepted.{is_fixed}
 use Rattle.mig_base.specs.Structure.{is_shared, alias_by, alias_unit, alias_only, alias_wire, alias_of}
-use Rattle.settle.specs.Settled.{IsSettled, gives_level, gated, drive_level, wire_level, level_by, visible_levels}
-use Rattle.settle.proofs.Unique.{level_at-map}
+use Rattle.level_laws.specs.Settled.{IsSettled, gives_level, gated, drive_level, wire_level, level_by, visible_levels}
+use Rattle.level_laws.proofs.Unique.{level_at-map}
 use Rattle.new_board.proofs.Variables.{AliasesFit}
 
 -- no Input port and no constant net has a driver

@@ -12,7 +12,7 @@ use Rattle.mig_base.specs.Accepted.{is_fixed}
 use Rattle.mig_base.specs.WrittenBoard.{IsWritable}
 use Rattle.mig_base.specs.Boards.{At, same_at, line_at}
 use Rattle.new_board.specs.NewChip.{private_from}
-use Rattle.rebuilt_boards.proofs.Wiring.{LinesFit}
+use Rattle.new_board.proofs.Wiring.{LinesFit}
 use Rattle.taken_boards.specs.TakenBoards.{has_few_drivers}
 
 lines-fit : (ls : List PinLine) (top : ℕ) → list_all (λ l. ltb l.net top) ls ≡ true → (q : At) (n : ℕ) → line_at ls q ≡ Some n → n < top

@@ -17,30 +17,32 @@ use Rattle.mig_base.specs.declared.nets.Net.{Net}
 use Rattle.mig_base.specs.declared.circuit.Literal.{Literal}
 use Rattle.mig_base.specs.declared.circuit.Gate.{Gate}
 use Rattle.mig_base.specs.declared.circuit.Gate.TheVariants.{Never, Product}
-use Rattle.mig_base.specs.declared.circuit.Register.{Register}
-use Rattle.mig_base.specs.Accepted.{Among}
+use Rattle.mig_base.specs.Among.{Among}
 use Rattle.mig_base.specs.DeviceTables.{is_pal, pins_of, cell_pins, rows_22}
 use Rattle.mig_base.specs.Cells.{enable_of, idle, pal_cell, pal_cells}
 use Rattle.mig_base.specs.Structure.{variable_gate, variable_product}
-use Rattle.mig_base.specs.Boards.{At, ChipUnit, literals_of, registers_of, register_of, units_from, circuit_on}
+use Rattle.mig_base.specs.Boards.{At, ChipUnit, literals_of, units_from, circuit_on}
 use Rattle.mig_base.specs.WellFormed.{rises_in, is_always, has_enable, most_terms, has_enable_row, fits_row, fits_control, registers_in, chip_columns, is_registered, FitsCell, IsWellFormed}
-use Rattle.mig_base.proofs.CellsFit.{pal-well}
-use Rattle.new_board.specs.NewChip.{OldBoard, NewChip, unit_on, first_register, first_registered, unit_register, register_on}
-use Rattle.new_board.specs.NewFiles.{registered_pins, new_columns, new_product, new_terms, new_enable, new_comb, new_row, cell_driving, new_cell, new_cells, reset_gate, preset_gate, fitted}
-use Rattle.new_board.specs.OneForOne.{same_chips}
+use Rattle.made_cells.proofs.MadeCells.{pal-well}
+use Rattle.new_board.specs.NewChip.{OldBoard, NewChip, unit_on, first_registered, placed_register, register_on}
+use Rattle.new_board.specs.declared.types.PlacedUnit.{PlacedUnit}
+use Rattle.new_board.specs.NewFiles.{registered_pins, new_columns, new_product, new_terms, new_enable, new_row, cell_of, new_cell, new_cells, reset_gate, preset_gate, fitted}
+use Rattle.new_board.specs.OneForOne.{terms_over, same_chips}
 use Rattle.rebuilt_boards.specs.RebuiltBoards.{built_chips}
 use Rattle.new_board.specs.declared.types.FittedChip.{FittedChip}
-use Rattle.new_board.proofs.Items.{among-get, get-among, among-map, among-unmap, among-unfilter, all-of, of-all}
-use Rattle.rebuilt_boards.proofs.RebuiltCircuit.{board_of, chip_at, chip-at, cell-pin}
-use Rattle.rebuilt_boards.proofs.Columns.{IsReadable}
-use Rattle.rebuilt_boards.proofs.Combinational.{old_terms}
+use Rattle.new_board.proofs.Items.{among-get, get-among, among-map, among-unmap, all-of, of-all}
+use Rattle.rebuilt_boards.proofs.RebuiltCircuit.{board_of, chip_at, chip-at}
+use Rattle.new_board.proofs.NewWiring.{cell-pin}
+use Rattle.new_board.proofs.Columns.{IsReadable}
+use Rattle.rebuilt_boards.proofs.Combinational.{old_terms, comb_made}
 use Rattle.rebuilt_boards.proofs.PalCells.{pal16-table}
 use Rattle.rebuilt_boards.proofs.PalUnits.{IsPalUnit, pal-unit, unit-from}
 use Rattle.rebuilt_boards.proofs.RegisterUnits.{IsCombUnit, IsRegUnit, unit-cases, reg-registered, registered-unit, comb-of}
 use Rattle.rebuilt_boards.proofs.Registered.{reg_made, pal-reset, pal-preset}
 use Rattle.rebuilt_boards.proofs.PalBoards.{IsPalBoard, comb-new_cell, reg-new_cell}
 use Rattle.rebuilt_boards.proofs.PalFollows.{board-comb}
-use Rattle.rebuilt_boards.proofs.BuiltRows.{new-fits, new-enable}
+use Rattle.rebuilt_boards.proofs.PalPins.{first-old}
+use Rattle.new_board.proofs.BuiltRows.{new-fits, new-enable}
 use Rattle.rebuilt_boards.proofs.BuiltColumns.{pal-wide, ColumnsFit, columns-fit, columns-alike, cells-registered}
 
 -- the cells of the old chip
@@ -102,7 +104,7 @@ comb-short net chips u c =
 
 -- a new chip
 
-abbrev gal_chip : List ℕ → Mode → List (ℕ × ℕ) → NewChip
+abbrev gal_chip : List ℕ → Mode → List PlacedUnit → NewChip
 gal_chip name mode units = record { name = name; kind = Gal16V8; mode = mode; units = units }
 
 length-images : {S T : Type 0} (f : S → T) (xs : List S) → length (map f xs) ≡ length xs
@@ -116,7 +118,7 @@ short-row b chip lits columns h =
 
 -- the terms of a cell
 terms-count : (net : Net) (chips : List ChipCells) (chip : NewChip) (u : ChipUnit) →
-    length (new_terms (board_of net (units_from 0 chips)) chip (old_terms (board_of net (units_from 0 chips)) u)) ≡ length u.cell.terms
+    length (new_terms (board_of net (units_from 0 chips)) chip (terms_over (circuit_on net (units_from 0 chips)) (old_terms (board_of net (units_from 0 chips)) u))) ≡ length u.cell.terms
 terms-count net chips chip u =
     let b = board_of net (units_from 0 chips) in
     length-images (new_product b chip) (map (variable_product b.circuit) (old_terms b u)) ∙ length-images (variable_product b.circuit) (old_terms b u)
@@ -124,10 +126,10 @@ terms-count net chips chip u =
 
 terms-fit : (net : Net) (chips : List ChipCells) (chip : NewChip) (u : ChipUnit) → ColumnsFit (board_of net (units_from 0 chips)) chip → HasShortTerms u.cell →
     AllByRecursion (λ (term : List Lit). IsTrue (fits_row (new_columns (board_of net (units_from 0 chips)) chip) term))
-    (new_terms (board_of net (units_from 0 chips)) chip (old_terms (board_of net (units_from 0 chips)) u))
+    (new_terms (board_of net (units_from 0 chips)) chip (terms_over (circuit_on net (units_from 0 chips)) (old_terms (board_of net (units_from 0 chips)) u)))
 terms-fit net chips chip u columns short =
     let b = board_of net (units_from 0 chips) in
-    of-all (λ (term : List Lit). IsTrue (fits_row (new_columns b chip) term)) (new_terms b chip (old_terms b u)) (λ t a.
+    of-all (λ (term : List Lit). IsTrue (fits_row (new_columns b chip) term)) (new_terms b chip (terms_over b.circuit (old_terms b u))) (λ t a.
     let over = among-unmap (new_product b chip) t (map (variable_product b.circuit) (old_terms b u)) a in
     let old = among-unmap (variable_product b.circuit) over.0 (old_terms b u) over.1 in
     let lits = among-unmap (literals_of net (units_from 0 chips) u.chip) old.0 u.cell.terms old.1 in
@@ -139,10 +141,9 @@ idle-fits : (mode : Mode) (columns : List Lit) (pin : ℕ) → FitsCell Gal16V8 
 idle-fits mode columns pin = record { form = refl; inversions = refl; enable = refl; count = omega arith; terms = tt }
 
 -- a combinational cell
-comb-fits : (net : Net) (chips : List ChipCells) (name : List ℕ) (mode : Mode) (units : List (ℕ × ℕ)) (u : ChipUnit) → ColumnsFit (board_of net (units_from 0 chips)) (gal_chip name mode units) →
+comb-fits : (net : Net) (chips : List ChipCells) (name : List ℕ) (mode : Mode) (units : List PlacedUnit) (u : ChipUnit) → ColumnsFit (board_of net (units_from 0 chips)) (gal_chip name mode units) →
     (c : IsCombUnit net chips u) → IsReadable (board_of net (units_from 0 chips)) (gal_chip name mode units) (variable_product (circuit_on net (units_from 0 chips)) (comb-of net chips u c).lits) →
-    FitsCell Gal16V8 mode (new_columns (board_of net (units_from 0 chips)) (gal_chip name mode units)) (new_comb (board_of net (units_from 0 chips)) (gal_chip name mode units) u.cell.pin u.cell.low
-    (Product (variable_product (circuit_on net (units_from 0 chips)) (comb-of net chips u c).lits)) (old_terms (board_of net (units_from 0 chips)) u))
+    FitsCell Gal16V8 mode (new_columns (board_of net (units_from 0 chips)) (gal_chip name mode units)) (comb_made (board_of net (units_from 0 chips)) (gal_chip name mode units) u (comb-of net chips u c).lits)
 comb-fits net chips name mode units u columns c readable = record {
   form = refl;
   inversions = refl;
@@ -157,12 +158,12 @@ comb-fits net chips name mode units u columns c readable = record {
   count =
       let count = terms-count net chips (gal_chip name mode units) u in
       let few = comb-few net chips u c in
-      subst (λ (q : Bool). length (new_terms (board_of net (units_from 0 chips)) (gal_chip name mode units) (old_terms (board_of net (units_from 0 chips)) u)) ≤ cond q 8 7) (sym columns.simple) (omega arith);
+      subst (λ (q : Bool). length (new_terms (board_of net (units_from 0 chips)) (gal_chip name mode units) (terms_over (circuit_on net (units_from 0 chips)) (old_terms (board_of net (units_from 0 chips)) u))) ≤ cond q 8 7) (sym columns.simple) (omega arith);
   terms = terms-fit net chips (gal_chip name mode units) u columns (short-terms net chips u c.pal);
 }
 
 -- a registered cell
-reg-fits : (net : Net) (chips : List ChipCells) (name : List ℕ) (mode : Mode) (units : List (ℕ × ℕ)) (u : ChipUnit) → ColumnsFit (board_of net (units_from 0 chips)) (gal_chip name mode units) →
+reg-fits : (net : Net) (chips : List ChipCells) (name : List ℕ) (mode : Mode) (units : List PlacedUnit) (u : ChipUnit) → ColumnsFit (board_of net (units_from 0 chips)) (gal_chip name mode units) →
     is_registered mode ≡ true → IsRegUnit net chips u →
     FitsCell Gal16V8 mode (new_columns (board_of net (units_from 0 chips)) (gal_chip name mode units)) (reg_made (board_of net (units_from 0 chips)) (gal_chip name mode units) u)
 reg-fits net chips name mode units u columns registered r = record {
@@ -177,7 +178,7 @@ reg-fits net chips name mode units u columns registered r = record {
 }
 
 -- the cell of a pin: that of its unit, or Idle
-pin-fits : (net : Net) (chips : List ChipCells) (j : ℕ) (name : List ℕ) (mode : Mode) (units : List (ℕ × ℕ)) (pin : ℕ) → IsPalBoard net chips →
+pin-fits : (net : Net) (chips : List ChipCells) (j : ℕ) (name : List ℕ) (mode : Mode) (units : List PlacedUnit) (pin : ℕ) → IsPalBoard net chips →
     ColumnsFit (board_of net (units_from 0 chips)) (gal_chip name mode units) → slice_get (same_chips net chips) j ≡ Some (gal_chip name mode units) →
     FitsCell Gal16V8 mode (new_columns (board_of net (units_from 0 chips)) (gal_chip name mode units)) (new_cell (board_of net (units_from 0 chips)) (gal_chip name mode units) pin)
 pin-fits net chips j name mode units pin board columns found = at (unit_on units pin) refl
@@ -188,59 +189,59 @@ pin-fits net chips j name mode units pin board columns found = at (unit_on units
     chip : NewChip
     chip = gal_chip name mode units
 
-    unit : (i : ℕ) (u : ChipUnit) → slice_get (units_from 0 chips) i ≡ Some u → chip_at (same_chips net chips) u.chip ≡ chip → unit_on units u.cell.pin ≡ Some i →
+    unit : (x : PlacedUnit) (u : ChipUnit) → slice_get (units_from 0 chips) x.unit ≡ Some u → chip_at (same_chips net chips) u.chip ≡ chip → unit_on units u.cell.pin ≡ Some x →
         IsCombUnit net chips u ⊎ IsRegUnit net chips u → FitsCell Gal16V8 mode (new_columns b chip) (new_cell b chip u.cell.pin)
-    unit i u e same on (inl c) =
-        let a = among-get (units_from 0 chips) i u e in
-        let made : new_cell b chip u.cell.pin ≡ new_comb b chip u.cell.pin u.cell.low (Product (variable_product b.circuit (comb-of net chips u c).lits)) (old_terms b u) =
-        subst (λ (x : NewChip). new_cell b x u.cell.pin ≡ new_comb b x u.cell.pin u.cell.low (Product (variable_product b.circuit (comb-of net chips u c).lits)) (old_terms b u)) same (comb-new_cell net chips u board a c) in
+    unit x u e same on (inl c) =
+        let a = among-get (units_from 0 chips) x.unit u e in
+        let made : new_cell b chip u.cell.pin ≡ comb_made b chip u (comb-of net chips u c).lits =
+        subst (λ (y : NewChip). new_cell b y u.cell.pin ≡ comb_made b y u (comb-of net chips u c).lits) same (comb-new_cell net chips u board a c) in
         subst (FitsCell Gal16V8 mode (new_columns b chip)) (sym made)
         (comb-fits net chips name mode units u columns c
-        (subst (λ (x : NewChip). IsReadable b x (variable_product b.circuit (comb-of net chips u c).lits)) same (board-comb net chips i u board e c).enable_fits.readable))
-    unit i u e same on (inr r) =
-        let a = among-get (units_from 0 chips) i u e in
-        let made : new_cell b chip u.cell.pin ≡ reg_made b chip u = subst (λ (x : NewChip). new_cell b x u.cell.pin ≡ reg_made b x u) same (reg-new_cell net chips u board a r) in
+        (subst (λ (y : NewChip). IsReadable b y (variable_product b.circuit (comb-of net chips u c).lits)) same (board-comb net chips x.unit u board e c).enable_fits.readable))
+    unit x u e same on (inr r) =
+        let a = among-get (units_from 0 chips) x.unit u e in
+        let made : new_cell b chip u.cell.pin ≡ reg_made b chip u = subst (λ (y : NewChip). new_cell b y u.cell.pin ≡ reg_made b y u) same (reg-new_cell net chips u board a r) in
         let here : is_some (register_on b.circuit chip u.cell.pin) ≡ true =
-        ap (λ (o : Option ℕ). is_some (option_and_then (unit_register b.circuit) o)) on ∙ registered-unit net (units_from 0 chips) i u e ∙ reg-registered net chips u r in
+        ap (λ (o : Option PlacedUnit). is_some (option_and_then (placed_register b.circuit) o)) on ∙ registered-unit net (units_from 0 chips) x.unit u e ∙ reg-registered net chips u r in
         subst (FitsCell Gal16V8 mode (new_columns b chip)) (sym made) (reg-fits net chips name mode units u columns (columns.registered u.cell.pin here) r)
 
-    at : (o : Option ℕ) → unit_on units pin ≡ o → FitsCell Gal16V8 mode (new_columns b chip) (new_cell b chip pin)
+    at : (o : Option PlacedUnit) → unit_on units pin ≡ o → FitsCell Gal16V8 mode (new_columns b chip) (new_cell b chip pin)
     at None e =
-        subst (FitsCell Gal16V8 mode (new_columns b chip)) (sym (ap (λ (o : Option ℕ). cell_driving b chip pin (option_and_then (slice_get b.circuit.units) o)) e)) (idle-fits mode (new_columns b chip) pin)
-    at (Some i) e =
-        let r = unit-from net chips j chip pin i board.pals found e in
+        subst (FitsCell Gal16V8 mode (new_columns b chip)) (sym (ap (cell_of b chip pin) e)) (idle-fits mode (new_columns b chip) pin)
+    at (Some x) e =
+        let r = unit-from net chips j chip pin x board.pals found e in
         let u = r.unit in
         let same : chip_at (same_chips net chips) u.chip ≡ chip =
         ap (λ (q : At). chip_at (same_chips net chips) q.0) r.place ∙ chip-at (same_chips net chips) j chip found in
-        let on : unit_on units u.cell.pin ≡ Some i = ap (λ (q : At). unit_on units q.1) r.place ∙ e in
+        let on : unit_on units u.cell.pin ≡ Some x = ap (λ (q : At). unit_on units q.1) r.place ∙ e in
         subst (λ (k : ℕ). FitsCell Gal16V8 mode (new_columns b chip) (new_cell b chip k)) (ap (λ (q : At). q.1) r.place)
-        (unit i u r.found same on (unit-cases net chips u board.pals (among-get (units_from 0 chips) i u r.found)))
+        (unit x u r.found same on (unit-cases net chips u board.pals (among-get (units_from 0 chips) x.unit u r.found)))
 
 map-pins : (f : ℕ → Cell) (pins : List ℕ) → ((pin : ℕ) → (f pin).pin ≡ pin) → map (λ (cell : Cell). cell.pin) (map f pins) ≡ pins
 map-pins f [] h = refl
 map-pins f (p ∷ ps) h = ap (λ (q : ℕ). q ∷ map (λ (cell : Cell). cell.pin) (map f ps)) (h p) ∙ ap (λ (rest : List ℕ). p ∷ rest) (map-pins f ps h)
 
 -- PAL16 chips neither reset nor preset their registers
-no-control : (net : Net) (chips : List ChipCells) (chip : NewChip) (gate : Option Register → Gate) → gate None ≡ Never →
-    ((u : ChipUnit) → Among u (units_from 0 chips) → gate (Some (register_of net (units_from 0 chips) u)) ≡ Never) →
-    new_row (board_of net (units_from 0 chips)) chip (variable_gate (circuit_on net (units_from 0 chips)) (gate (first_register (circuit_on net (units_from 0 chips)) chip))) ≡ row.Never
-no-control net chips chip gate none each =
-    ap (λ (g : Gate). new_row (board_of net (units_from 0 chips)) chip (variable_gate (circuit_on net (units_from 0 chips)) g))
-    (number (option_and_then (unit_register (circuit_on net (units_from 0 chips))) (first_registered (circuit_on net (units_from 0 chips)) chip)))
+no-reset : (net : Net) (chips : List ChipCells) (j : ℕ) (chip : NewChip) → IsPalBoard net chips → slice_get (same_chips net chips) j ≡ Some chip → reset_gate (first_registered (circuit_on net (units_from 0 chips)) chip) ≡ Never
+no-reset net chips j chip board found = at (first_registered (circuit_on net (units_from 0 chips)) chip) refl
   where
-    register : (o : Option Register) → ((r : Register) → o ≡ Some r → Among r (circuit_on net (units_from 0 chips)).registers) → gate o ≡ Never
-    register None h = none
-    register (Some r) h =
-        let u = among-unmap (register_of net (units_from 0 chips)) r (registers_of (units_from 0 chips)) (h r refl) in
-        let kept = among-unfilter _ u.0 (units_from 0 chips) u.1 in
-        ap (λ (s : Register). gate (Some s)) u.2 ∙ each u.0 kept.0
+    at : (o : Option PlacedUnit) → first_registered (circuit_on net (units_from 0 chips)) chip ≡ o → reset_gate o ≡ Never
+    at None e = refl
+    at (Some x) e =
+        let r = first-old net chips j chip x board found e in
+        ap (λ (y : PlacedUnit). y.reset) r.rows ∙ ap (variable_gate (circuit_on net (units_from 0 chips))) (pal-reset net chips (units_from 0 chips) r.unit (pal-unit net chips r.unit board.pals r.among))
 
-    number : (o : Option ℕ) → gate (option_and_then (slice_get (circuit_on net (units_from 0 chips)).registers) o) ≡ Never
-    number None = none
-    number (Some k) = register (slice_get (circuit_on net (units_from 0 chips)).registers k) (λ r e. among-get (circuit_on net (units_from 0 chips)).registers k r e)
+no-preset : (net : Net) (chips : List ChipCells) (j : ℕ) (chip : NewChip) → IsPalBoard net chips → slice_get (same_chips net chips) j ≡ Some chip → preset_gate (first_registered (circuit_on net (units_from 0 chips)) chip) ≡ Never
+no-preset net chips j chip board found = at (first_registered (circuit_on net (units_from 0 chips)) chip) refl
+  where
+    at : (o : Option PlacedUnit) → first_registered (circuit_on net (units_from 0 chips)) chip ≡ o → preset_gate o ≡ Never
+    at None e = refl
+    at (Some x) e =
+        let r = first-old net chips j chip x board found e in
+        ap (λ (y : PlacedUnit). y.preset) r.rows ∙ ap (variable_gate (circuit_on net (units_from 0 chips))) (pal-preset net chips (units_from 0 chips) r.unit (pal-unit net chips r.unit board.pals r.among))
 
 -- the cells of a new chip are well formed
-chip-well : (net : Net) (chips : List ChipCells) (j : ℕ) (name : List ℕ) (mode : Mode) (units : List (ℕ × ℕ)) → IsPalBoard net chips →
+chip-well : (net : Net) (chips : List ChipCells) (j : ℕ) (name : List ℕ) (mode : Mode) (units : List PlacedUnit) → IsPalBoard net chips →
     slice_get (same_chips net chips) j ≡ Some (gal_chip name mode units) → IsWellFormed (new_cells (board_of net (units_from 0 chips)) (gal_chip name mode units))
 chip-well net chips j name mode units board found = record {
   mode = columns.mode;
@@ -248,8 +249,8 @@ chip-well net chips j name mode units board found = record {
   cells = subst (λ (cs : List Lit). AllByRecursion (FitsCell Gal16V8 mode cs) cells.cells) (sym alike) (of-all (FitsCell Gal16V8 mode (new_columns b chip)) cells.cells (λ cell a.
       let pin = among-unmap (new_cell b chip) cell (cell_pins Gal16V8) a in
       subst (FitsCell Gal16V8 mode (new_columns b chip)) (sym pin.2) (pin-fits net chips j name mode units pin.0 board columns found)));
-  reset = ap (fits_control Gal16V8 (chip_columns cells)) (no-control net chips chip reset_gate refl (λ u a. pal-reset net chips (units_from 0 chips) u (pal-unit net chips u board.pals a)));
-  preset = ap (fits_control Gal16V8 (chip_columns cells)) (no-control net chips chip preset_gate refl (λ u a. pal-preset net chips (units_from 0 chips) u (pal-unit net chips u board.pals a)));
+  reset = ap (λ (g : Gate). fits_control Gal16V8 (chip_columns cells) (new_row b chip g)) (no-reset net chips j chip board found);
+  preset = ap (λ (g : Gate). fits_control Gal16V8 (chip_columns cells) (new_row b chip g)) (no-preset net chips j chip board found);
 }
   where
     b : OldBoard

@@ -12,22 +12,24 @@ use Rattle.mig_base.specs.declared.cells.Cell.{Cell}
 use Rattle.mig_base.specs.declared.cells.ChipCells.{ChipCells}
 use Rattle.mig_base.specs.declared.nets.Net.{Net}
 use Rattle.mig_base.specs.declared.nets.ChipLine.{ChipLine}
-use Rattle.mig_base.specs.Accepted.{Among}
+use Rattle.mig_base.specs.Among.{Among}
 use Rattle.mig_base.specs.DeviceTables.{is_pal16, cell_pins, pal_registers}
 use Rattle.mig_base.specs.Cells.{is_among, lit_of, pair_columns, columns_of}
 use Rattle.mig_base.specs.Boards.{At, units_from, circuit_on}
 use Rattle.mig_base.specs.WellFormed.{is_reg, is_simple, is_registered, same_lit, has_mode, registers_in}
 use Rattle.mig_base.specs.WrittenBoard.{are_distinct}
-use Rattle.new_board.specs.NewChip.{OldBoard, NewChip, unit_on, unit_register, register_on}
-use Rattle.new_board.specs.NewFiles.{registered_pins, new_columns, cell_driving, new_cell}
+use Rattle.new_board.specs.NewChip.{OldBoard, NewChip, unit_on, placed_register, register_on}
+use Rattle.new_board.specs.declared.types.PlacedUnit.{PlacedUnit}
+use Rattle.new_board.specs.NewFiles.{registered_pins, new_columns, cell_of, new_cell}
 use Rattle.new_board.specs.OneForOne.{gal_mode, same_chip, same_chips}
 use Rattle.new_board.proofs.Items.{among-get, among-filter, among-unfilter, among-map, among-unmap, any-among, among-any}
 use Rattle.new_board.proofs.Products.{both-ways}
-use Rattle.rebuilt_boards.proofs.Columns.{RegistersFit}
-use Rattle.rebuilt_boards.proofs.RebuiltCircuit.{board_of, chip_at, chip-at, cell-pin}
+use Rattle.new_board.proofs.Columns.{RegistersFit}
+use Rattle.rebuilt_boards.proofs.RebuiltCircuit.{board_of, chip_at, chip-at}
+use Rattle.new_board.proofs.NewWiring.{cell-pin}
 use Rattle.rebuilt_boards.proofs.PalCells.{pal16-table}
 use Rattle.rebuilt_boards.proofs.PalUnits.{pal-unit, unit-from, new-same}
-use Rattle.rebuilt_boards.proofs.RegisterUnits.{registered-unit, listed-on, registers-fit}
+use Rattle.rebuilt_boards.proofs.RegisterUnits.{registered-unit, on-register, registers-fit}
 use Rattle.rebuilt_boards.proofs.PalReads.{IsChip, holds-units, no-register, register-unit}
 use Rattle.rebuilt_boards.proofs.PalBoards.{IsPalBoard, board-chip, board-registered}
 
@@ -66,14 +68,14 @@ columns-alike k mode rs ss h = pairs _ _
 
 -- the registers of a new chip are on the registered pins of the old one
 register-same : (net : Net) (chips : List ChipCells) (j pin : ℕ) (line : ChipLine) (cells : ChipCells) → IsChip net chips j line cells →
-    is_some (register_on (circuit_on net (units_from 0 chips)) (same_chip (units_from 0 chips) j line cells) pin) ≡ is_among (pal_registers line.kind) pin
+    is_some (register_on (circuit_on net (units_from 0 chips)) (same_chip (board_of net (units_from 0 chips)) j line cells) pin) ≡ is_among (pal_registers line.kind) pin
 register-same net chips j pin line cells c = at (is_among (pal_registers line.kind) pin) refl
   where
-    at : (q : Bool) → is_among (pal_registers line.kind) pin ≡ q → is_some (register_on (circuit_on net (units_from 0 chips)) (same_chip (units_from 0 chips) j line cells) pin) ≡ q
+    at : (q : Bool) → is_among (pal_registers line.kind) pin ≡ q → is_some (register_on (circuit_on net (units_from 0 chips)) (same_chip (board_of net (units_from 0 chips)) j line cells) pin) ≡ q
     at true e =
         let units = units_from 0 chips in
         let r = register-unit net chips j pin line cells c e in
-        ap (λ (o : Option ℕ). is_some (option_and_then (unit_register (circuit_on net units)) o)) (listed-on units j (same_chip units j line cells) pin r.0 (holds-units net chips j line cells c) r.1)
+        ap (λ (o : Option ℕ). is_some o) (on-register net units j (same_chip (board_of net units) j line cells) pin r.0 (holds-units net chips j line cells c) r.1)
         ∙ registered-unit net units r.0 r.1.unit r.1.found ∙ r.2
     at false e = ap (λ (o : Option ℕ). is_some o) (no-register net chips j pin line cells c e)
 
@@ -88,11 +90,11 @@ pub record ColumnsFit (b : OldBoard) (chip : NewChip) : Type 0 where
   pub wide : length (new_columns b chip) ≡ 32
 
 same-columns : (net : Net) (chips : List ChipCells) (j : ℕ) (line : ChipLine) (cells : ChipCells) → IsChip net chips j line cells →
-    ColumnsFit (board_of net (units_from 0 chips)) (same_chip (units_from 0 chips) j line cells)
+    ColumnsFit (board_of net (units_from 0 chips)) (same_chip (board_of net (units_from 0 chips)) j line cells)
 same-columns net chips j line cells c =
     let k = line.kind in
     let b = board_of net (units_from 0 chips) in
-    let chip = same_chip (units_from 0 chips) j line cells in
+    let chip = same_chip (board_of net (units_from 0 chips)) j line cells in
     let table = column-table k cells.mode c.pal.pal in
     let gal = (pal16-table k c.pal.pal).gal in
     let registers = registers-fit net (units_from 0 chips) j chip (holds-units net chips j line cells c) in
@@ -121,22 +123,22 @@ cell-registered : (net : Net) (chips : List ChipCells) (j pin : ℕ) (chip : New
     is_reg (new_cell (board_of net (units_from 0 chips)) chip pin).form ≡ is_some (register_on (circuit_on net (units_from 0 chips)) chip pin)
 cell-registered net chips j pin chip board found = at (unit_on chip.units pin) refl
   where
-    at : (o : Option ℕ) → unit_on chip.units pin ≡ o → is_reg (new_cell (board_of net (units_from 0 chips)) chip pin).form ≡ is_some (register_on (circuit_on net (units_from 0 chips)) chip pin)
+    at : (o : Option PlacedUnit) → unit_on chip.units pin ≡ o → is_reg (new_cell (board_of net (units_from 0 chips)) chip pin).form ≡ is_some (register_on (circuit_on net (units_from 0 chips)) chip pin)
     at None e =
         let b = board_of net (units_from 0 chips) in
-        ap (λ (o : Option ℕ). is_reg (cell_driving b chip pin (option_and_then (slice_get b.circuit.units) o)).form) e
-        ∙ sym (ap (λ (o : Option ℕ). is_some (option_and_then (unit_register b.circuit) o)) e)
-    at (Some i) e =
+        ap (λ (o : Option PlacedUnit). is_reg (cell_of b chip pin o).form) e
+        ∙ sym (ap (λ (o : Option PlacedUnit). is_some (option_and_then (placed_register b.circuit) o)) e)
+    at (Some x) e =
         let b = board_of net (units_from 0 chips) in
-        let r = unit-from net chips j chip pin i board.pals found e in
+        let r = unit-from net chips j chip pin x board.pals found e in
         let u = r.unit in
         let same : chip_at (same_chips net chips) u.chip ≡ chip =
         ap (λ (q : At). chip_at (same_chips net chips) q.0) r.place ∙ chip-at (same_chips net chips) j chip found in
         ap (λ (k : ℕ). is_reg (new_cell b chip k).form) (sym (ap (λ (q : At). q.1) r.place))
         ∙ ap (λ (c : NewChip). is_reg (new_cell b c u.cell.pin).form) (sym same)
-        ∙ board-registered net chips u board (among-get (units_from 0 chips) i u r.found)
-        ∙ sym (registered-unit net (units_from 0 chips) i u r.found)
-        ∙ sym (ap (λ (o : Option ℕ). is_some (option_and_then (unit_register b.circuit) o)) e)
+        ∙ board-registered net chips u board (among-get (units_from 0 chips) x.unit u r.found)
+        ∙ sym (registered-unit net (units_from 0 chips) x.unit u r.found)
+        ∙ sym (ap (λ (o : Option PlacedUnit). is_some (option_and_then (placed_register b.circuit) o)) e)
 
 pub cells-registered : (net : Net) (chips : List ChipCells) (j : ℕ) (chip : NewChip) → IsPalBoard net chips → slice_get (same_chips net chips) j ≡ Some chip → (pin : ℕ) →
     is_among (registers_in (map (new_cell (board_of net (units_from 0 chips)) chip) (cell_pins Gal16V8))) pin ≡ is_among (registered_pins (board_of net (units_from 0 chips)) chip) pin
@@ -161,11 +163,11 @@ cells-registered net chips j chip board found pin =
     back : is_some (register_on b.circuit chip pin) ≡ true → is_among (registers_in cells) pin ≡ true
     back e = at (unit_on chip.units pin) refl
       where
-        at : (o : Option ℕ) → unit_on chip.units pin ≡ o → is_among (registers_in cells) pin ≡ true
-        at None is = let wrong : false ≡ true = sym (ap (λ (o : Option ℕ). is_some (option_and_then (unit_register b.circuit) o)) is) ∙ e in cc
-        at (Some i) is =
-            let r = unit-from net chips j chip pin i board.pals found is in
-            let p = pal-unit net chips r.unit board.pals (among-get (units_from 0 chips) i r.unit r.found) in
+        at : (o : Option PlacedUnit) → unit_on chip.units pin ≡ o → is_among (registers_in cells) pin ≡ true
+        at None is = let wrong : false ≡ true = sym (ap (λ (o : Option PlacedUnit). is_some (option_and_then (placed_register b.circuit) o)) is) ∙ e in cc
+        at (Some x) is =
+            let r = unit-from net chips j chip pin x board.pals found is in
+            let p = pal-unit net chips r.unit board.pals (among-get (units_from 0 chips) x.unit r.unit r.found) in
             let its : Among pin (cell_pins Gal16V8) =
             subst (λ (q : ℕ). Among q (cell_pins Gal16V8)) (ap (λ (q : At). q.1) r.place) (subst (Among r.unit.cell.pin) (sym (pal16-table p.line.kind p.chip.pal).cells) p.pin) in
             among-any (λ p. eqb p pin) (new_cell b chip pin).pin (registers_in cells)

@@ -9,11 +9,11 @@ use Rattle.mig_base.specs.declared.nets.NetLine.{NetLine}
 use Rattle.mig_base.specs.declared.nets.ChipLine.{ChipLine}
 use Rattle.mig_base.specs.declared.nets.PinLine.{PinLine}
 use Rattle.mig_base.specs.declared.cells.ChipCells.{ChipCells}
-use Rattle.mig_base.specs.Accepted.{Among}
+use Rattle.mig_base.specs.Among.{Among}
 use Rattle.mig_base.specs.Names.{is_name}
 use Rattle.mig_base.specs.BoardText.{net_names, is_input_port}
 use Rattle.mig_base.specs.DeviceTables.{ordinary_pins}
-use Rattle.mig_base.specs.Boards.{ChipUnit, units_from}
+use Rattle.mig_base.specs.Boards.{units_from}
 use Rattle.mig_base.specs.WrittenBoard.{are_distinct, is_part, is_pulled, Place, same_place, place_of, board_places, IsWritable}
 use Rattle.mig_base.proofs.Distinct.{same-refl, part-more, places-equal}
 use Rattle.new_board.specs.NewChip.{OldBoard, NewChip, private_from}
@@ -24,19 +24,20 @@ use Rattle.rebuilt_boards.specs.RebuiltBoards.{built_chips, built_net}
 use Rattle.new_board.specs.declared.types.FittedChip.{FittedChip}
 use Rattle.new_board.specs.declared.types.PinNet.{PinNet}
 use Rattle.new_board.proofs.Items.{get-among, among-append, among-unmap, among-unfilter_map, pass-all}
-use Rattle.rebuilt_boards.proofs.RebuiltCircuit.{board_of, rebuilt_net, kept_of}
-use Rattle.rebuilt_boards.proofs.KeptNumbers.{kept-numbers}
+use Rattle.rebuilt_boards.proofs.RebuiltCircuit.{board_of}
+use Rattle.new_board.proofs.NewWiring.{rebuilt_net, kept_of}
+use Rattle.new_board.proofs.KeptNumbers.{kept-numbers}
 use Rattle.rebuilt_boards.proofs.PalUnits.{ArePals}
 use Rattle.rebuilt_boards.proofs.PalBoards.{IsPalBoard}
-use Rattle.rebuilt_boards.proofs.BuiltNets.{nets-few, nets-named, nets-distinct}
+use Rattle.new_board.proofs.BuiltNets.{nets-few, nets-named, nets-distinct}
 
 -- names
 
-pub new-names : (units : List ChipUnit) (j : ℕ) (lines : List ChipLine) (chips : List ChipCells) → ArePals lines chips →
-    map (λ (c : NewChip). c.name) (same_chips_from units j lines chips) ≡ map (λ (l : ChipLine). l.name) lines
-new-names units j [] chips h = refl
-new-names units j (l ∷ ls) [] h = absurd h
-new-names units j (l ∷ ls) (c ∷ cs) h = ap (λ (rest : List (List ℕ)). l.name ∷ rest) (new-names units (j + 1) ls cs h.1)
+pub new-names : (b : OldBoard) (j : ℕ) (lines : List ChipLine) (chips : List ChipCells) → ArePals lines chips →
+    map (λ (c : NewChip). c.name) (same_chips_from b j lines chips) ≡ map (λ (l : ChipLine). l.name) lines
+new-names b j [] chips h = refl
+new-names b j (l ∷ ls) [] h = absurd h
+new-names b j (l ∷ ls) (c ∷ cs) h = ap (λ (rest : List (List ℕ)). l.name ∷ rest) (new-names b (j + 1) ls cs h.1)
 
 -- maps in turn
 pub map-after : {A B C : Type 0} (g : B → C) (f : A → B) (xs : List A) → map g (map f xs) ≡ map (λ x. g (f x)) xs
@@ -50,7 +51,7 @@ all-after test f (x ∷ xs) = ap (λ (q : Bool). test (f x) && q) (all-after tes
 
 pub built-names : (net : Net) (chips : List ChipCells) → IsPalBoard net chips → map (λ (f : FittedChip). f.name) (built_chips net chips) ≡ map (λ (c : ChipLine). c.name) net.chips
 built-names net chips board =
-    map-after (λ (f : FittedChip). f.name) (fitted (board_of net (units_from 0 chips))) (same_chips net chips) ∙ new-names (units_from 0 chips) 0 net.chips chips board.pals
+    map-after (λ (f : FittedChip). f.name) (fitted (board_of net (units_from 0 chips))) (same_chips net chips) ∙ new-names (board_of net (units_from 0 chips)) 0 net.chips chips board.pals
 
 line-names : (net : Net) (chips : List ChipCells) → IsPalBoard net chips → map (λ (c : ChipLine). c.name) (built_net net chips).chips ≡ map (λ (c : ChipLine). c.name) net.chips
 line-names net chips board = map-after (λ (c : ChipLine). c.name) new_chip_line (built_chips net chips) ∙ built-names net chips board

@@ -11,13 +11,14 @@ use Rattle.mig_base.specs.declared.cells.ChipCells.{ChipCells}
 use Rattle.mig_base.specs.declared.nets.Net.{Net}
 use Rattle.mig_base.specs.declared.nets.ChipLine.{ChipLine}
 use Rattle.mig_base.specs.declared.plans.PlanChip.{PlanChip}
-use Rattle.mig_base.specs.Accepted.{Among}
+use Rattle.mig_base.specs.Among.{Among}
 use Rattle.mig_base.specs.Names.{is_name}
 use Rattle.mig_base.specs.DeviceTables.{cell_pins}
 use Rattle.mig_base.specs.Cells.{pal_cell}
 use Rattle.mig_base.specs.Boards.{ChipUnit, is_unit, units_from}
 use Rattle.mig_base.specs.WrittenBoard.{IsWritable}
 use Rattle.new_board.specs.OneForOne.{same_chips, chip_named_at, place_line, plan_chip, one_for_one}
+use Rattle.rebuilt_boards.proofs.RebuiltCircuit.{board_of}
 use Rattle.rebuilt_boards.specs.RebuiltBoards.{built_chips, is_small_pin, is_small_line, IsSmallPlan, BoardsAreBuiltWell}
 use Rattle.new_board.specs.declared.types.FittedChip.{FittedChip}
 use Rattle.new_board.proofs.Items.{among-get, among-unmap, all-pass, pass-all}
@@ -25,14 +26,14 @@ use Rattle.rebuilt_boards.proofs.PalCells.{pal16-table}
 use Rattle.rebuilt_boards.proofs.PalUnits.{IsPalChip, ArePals, pal-unit}
 use Rattle.rebuilt_boards.proofs.PalBoards.{IsPalBoard}
 use Rattle.rebuilt_boards.proofs.TakenBoards.{taken-board}
-use Rattle.rebuilt_boards.proofs.BuiltRows.{filter-short}
+use Rattle.new_board.proofs.BuiltRows.{filter-short}
 use Rattle.rebuilt_boards.proofs.BuiltCells.{board-well, board-kinds}
 use Rattle.rebuilt_boards.proofs.BuiltNet.{new-names, map-after, all-after, built-names, built-count, board-writable}
 
 -- the plan
 
 plan-names : (net : Net) (chips : List ChipCells) → IsPalBoard net chips → map (λ (c : PlanChip). c.name) (one_for_one net chips).chips ≡ map (λ (c : ChipLine). c.name) net.chips
-plan-names net chips board = map-after (λ (c : PlanChip). c.name) plan_chip (same_chips net chips) ∙ new-names (units_from 0 chips) 0 net.chips chips board.pals
+plan-names net chips board = map-after (λ (c : PlanChip). c.name) plan_chip (same_chips net chips) ∙ new-names (board_of net (units_from 0 chips)) 0 net.chips chips board.pals
 
 small-pins : (pin : ℕ) → Among pin (cell_pins Gal16V8) → pin ≤ 19
 small-pins pin a = leb-true pin 19 (all-pass (λ (p : ℕ). leb p 19) pin (cell_pins Gal16V8) refl a)

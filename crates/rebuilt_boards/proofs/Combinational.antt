@@ -1,12 +1,12 @@
 -- A combinational unit of a new chip drives the level of its old unit.
 use Rattle.std.proofs.Common.{ℕ, ◌≡◌, Bool, true, false, cond, List, [], ◌∷◌, ◌++◌, map, Option, Some, None, refl, sym, ap, ◌∙◌, subst, inl, inr}
-use Rattle.std.specs.Prelude.{option_and_then}
 use Rattle.std.specs.List.{AllByRecursion, slice_get}
 use Rattle.std.specs.Option.{option_map}
 use Rattle.std.proofs.lemmas.Option.{same_Some, slice_get-map}
 use Rattle.mig_base.specs.declared.levels.Level.{Level}
 use Rattle.mig_base.specs.declared.cells.Source.{Source}
 use Rattle.mig_base.specs.declared.cells.Lit.{Lit}
+use Rattle.mig_base.specs.declared.cells.Form.TheVariants as form
 use Rattle.mig_base.specs.declared.cells.Cell.{Cell}
 use Rattle.mig_base.specs.declared.nets.Net.{Net}
 use Rattle.mig_base.specs.declared.circuit.Read.{Read}
@@ -20,19 +20,23 @@ use Rattle.mig_base.specs.declared.circuit.Levels.{Levels}
 use Rattle.mig_base.specs.DeviceTables.{pair_pins}
 use Rattle.mig_base.specs.Levels.{or3, read_level, level_at}
 use Rattle.mig_base.specs.Values.{source_level, literal_value, product_value, sum_value, row_value, inverted, product_reads, sum_reads, row_reads}
-use Rattle.mig_base.specs.Accepted.{Among}
+use Rattle.mig_base.specs.Among.{Among}
 use Rattle.mig_base.specs.Boards.{ChipUnit, is_registered, registers_of, at_of, place_of, net_of, read_of, literals_of, enable_on, can_drive, driver_of, circuit_on}
 use Rattle.mig_base.specs.Structure.{variable_product}
-use Rattle.settle.specs.Settled.{gated}
-use Rattle.settle.specs.Follows.{SameAt}
-use Rattle.settle.proofs.Unique.{all_left, all_right}
-use Rattle.new_board.specs.NewChip.{OldBoard, NewChip, unit_on, register_on, net_literal, read_by}
+use Rattle.level_laws.specs.Settled.{gated}
+use Rattle.level_laws.specs.Follows.{SameAt}
+use Rattle.level_laws.proofs.Unique.{all_left, all_right}
+use Rattle.new_board.specs.NewChip.{OldBoard, NewChip, unit_on, register_driven, placed_register, register_on, net_literal, read_by}
+use Rattle.new_board.specs.declared.types.PlacedUnit.{PlacedUnit}
+use Rattle.new_board.specs.OneForOne.{terms_over, old_comb, old_rows}
 use Rattle.new_board.specs.InputPins.{pin_net, pin_reads}
-use Rattle.new_board.specs.NewFiles.{new_product, new_terms, new_enable, new_comb, cell_driving, new_cell, new_cells}
+use Rattle.new_board.specs.NewFiles.{new_product, new_terms, new_enable, cell_by, cell_of, new_cell, new_cells}
 use Rattle.new_board.proofs.Items.{all-append, among-unmap, of-all}
 use Rattle.new_board.proofs.Variables.{AliasesFit, AreVariables, variable-value, variable_product-value}
-use Rattle.rebuilt_boards.proofs.Columns.{source_at, placed_lit, IsReading, IsReadable, RegistersFit, product-lit, new_product-value}
-use Rattle.rebuilt_boards.proofs.RebuiltCircuit.{board_of, chip_at, rebuilt_unit, rebuilt_units, rebuilt_net, NumbersFit, UnitsFit, IsPin, pin-old, pin-wire}
+use Rattle.new_board.proofs.Columns.{source_at, placed_lit, IsReading, IsReadable, RegistersFit, product-lit, new_product-value}
+use Rattle.rebuilt_boards.proofs.RebuiltCircuit.{board_of, chip_at, rebuilt_unit, rebuilt_units, UnitsFit, IsPin, pin-old, pin-wire}
+use Rattle.new_board.proofs.NewWiring.{rebuilt_net, NumbersFit}
+use Rattle.rebuilt_boards.proofs.OldRows.{old-rows}
 use Rattle.rebuilt_boards.proofs.RebuiltFollows.{old_read, IsKept, DriverFits}
 
 -- where a source of a new chip stands on the new board
@@ -88,7 +92,7 @@ pins-kept b news old j chip lits fit = record {
 
 -- the sum that becomes of these products
 abbrev pub rebuilt_terms : OldBoard → List NewChip → ℕ → NewChip → List (List Literal) → List (List Literal)
-rebuilt_terms b news j chip terms = map (literals_of (rebuilt_net b news) (rebuilt_units b news) j) (new_terms b chip terms)
+rebuilt_terms b news j chip terms = map (literals_of (rebuilt_net b news) (rebuilt_units b news) j) (new_terms b chip (terms_over b.circuit terms))
 
 pub terms-value : (b : OldBoard) (news : List NewChip) (old : ℕ → ℕ) (j : ℕ) (chip : NewChip) (l m : Levels) → PinsFit b news old j chip → AliasesFit b.circuit l →
     (terms : List (List Literal)) → ((t : List Literal) → Among t terms → ProductFits b chip t) →
@@ -144,18 +148,40 @@ old-driver b u f =
     }) f.combinational
     ∙ ap (λ (g : Gate). record { enable = g; gives = Sum (old_terms b u); low = u.cell.low }) f.enable
 
+-- its rows over variables
+abbrev pub comb_rows : OldBoard → ℕ → ℕ → ChipUnit → List Literal → PlacedUnit
+comb_rows b pin i u lits = old_comb b.circuit pin i (record { enable = Product lits; gives = Sum (old_terms b u); low = u.cell.low }) (old_terms b u)
+
+pub unit-driver : (net : Net) (units : List ChipUnit) (i : ℕ) (u : ChipUnit) → slice_get units i ≡ Some u → (f : IsComb (board_of net units) u) →
+    slice_get (circuit_on net units).units i ≡ Some (record { enable = Product f.lits; gives = Sum (old_terms (board_of net units) u); low = u.cell.low })
+unit-driver net units i u e f =
+    slice_get-map (driver_of net units) units i ∙ ap (option_map (driver_of net units)) e ∙ ap (λ (d : Driver). Some d) (old-driver (board_of net units) u f)
+
+pub comb-rows : (net : Net) (units : List ChipUnit) (pin i : ℕ) (u : ChipUnit) → slice_get units i ≡ Some u → (f : IsComb (board_of net units) u) →
+    old_rows (circuit_on net units) pin i ≡ comb_rows (board_of net units) pin i u f.lits
+comb-rows net units pin i u e f = old-rows (circuit_on net units) pin i _ (unit-driver net units i u e f)
+
 -- the cell that becomes of it
-pub comb-cell : (net : Net) (units : List ChipUnit) (chip : NewChip) (i : ℕ) (u : ChipUnit) → unit_on chip.units u.cell.pin ≡ Some i → slice_get units i ≡ Some u →
-    (f : IsComb (board_of net units) u) →
-    new_cell (board_of net units) chip u.cell.pin
-    ≡ new_comb (board_of net units) chip u.cell.pin u.cell.low (Product (variable_product (circuit_on net units) f.lits)) (old_terms (board_of net units) u)
+abbrev pub comb_made : OldBoard → NewChip → ChipUnit → List Literal → Cell
+comb_made b chip u lits = record {
+  pin = u.cell.pin;
+  form = form.Comb;
+  low = u.cell.low;
+  pin_low = false;
+  enable = new_enable b chip (Product (variable_product b.circuit lits));
+  terms = new_terms b chip (terms_over b.circuit (old_terms b u));
+}
+
+pub comb-cell : (net : Net) (units : List ChipUnit) (chip : NewChip) (i : ℕ) (u : ChipUnit) → unit_on chip.units u.cell.pin ≡ Some (old_rows (circuit_on net units) u.cell.pin i) →
+    slice_get units i ≡ Some u → (f : IsComb (board_of net units) u) → new_cell (board_of net units) chip u.cell.pin ≡ comb_made (board_of net units) chip u f.lits
 comb-cell net units chip i u on e f =
     let b = board_of net units in
-    ap (λ (o : Option ℕ). cell_driving b chip u.cell.pin (option_and_then (slice_get (circuit_on net units).units) o)) on
-    ∙ ap (cell_driving b chip u.cell.pin) (slice_get-map (driver_of net units) units i ∙ ap (option_map (driver_of net units)) e)
-    ∙ ap (λ (d : Driver). cell_driving b chip u.cell.pin (Some d)) (old-driver b u f)
+    let pin = u.cell.pin in
+    ap (cell_of b chip pin) on
+    ∙ ap (λ (x : PlacedUnit). cell_by b chip pin x (placed_register b.circuit x)) (comb-rows net units pin i u e f)
+    ∙ ap (λ (o : Option Driver). cell_by b chip pin (comb_rows b pin i u f.lits) (register_driven o)) (unit-driver net units i u e f)
 
-pub new-driver : (net : Net) (units : List ChipUnit) (news : List NewChip) (i : ℕ) (u : ChipUnit) → unit_on (chip_at news u.chip).units u.cell.pin ≡ Some i → slice_get units i ≡ Some u →
+pub new-driver : (net : Net) (units : List ChipUnit) (news : List NewChip) (i : ℕ) (u : ChipUnit) → unit_on (chip_at news u.chip).units u.cell.pin ≡ Some (old_rows (circuit_on net units) u.cell.pin i) → slice_get units i ≡ Some u →
     (f : IsComb (board_of net units) u) →
     driver_of (rebuilt_net (board_of net units) news) (rebuilt_units (board_of net units) news) (rebuilt_unit (board_of net units) news u)
     ≡ record {
@@ -241,7 +267,7 @@ enable-can b news j chip [] = refl
 enable-can b news j chip (x ∷ xs) = refl
 
 -- it can drive where the old unit can
-pub comb-enabled : (net : Net) (units : List ChipUnit) (news : List NewChip) (i : ℕ) (u : ChipUnit) → unit_on (chip_at news u.chip).units u.cell.pin ≡ Some i → slice_get units i ≡ Some u →
+pub comb-enabled : (net : Net) (units : List ChipUnit) (news : List NewChip) (i : ℕ) (u : ChipUnit) → unit_on (chip_at news u.chip).units u.cell.pin ≡ Some (old_rows (circuit_on net units) u.cell.pin i) → slice_get units i ≡ Some u →
     IsComb (board_of net units) u →
     can_drive (driver_of (rebuilt_net (board_of net units) news) (rebuilt_units (board_of net units) news) (rebuilt_unit (board_of net units) news u)).enable
     ≡ can_drive (driver_of net units u).enable

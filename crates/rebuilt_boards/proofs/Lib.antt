@@ -1,7 +1,4 @@
-pub mod Columns
-pub mod Taking
-pub mod Reading
-pub mod Wiring
+pub mod OldRows
 pub mod RebuiltCircuit
 pub mod RebuiltFollows
 pub mod Combinational
@@ -11,8 +8,6 @@ pub mod PalUnits
 pub mod NeededVariables
 pub mod Undriven
 pub mod SameBoards
-pub mod KeptNets
-pub mod KeptNumbers
 pub mod AliasNets
 pub mod Ranges
 pub mod RegisterUnits
@@ -25,10 +20,8 @@ pub mod PalFollows
 pub mod PalRanks
 pub mod PalRebuilt
 pub mod TakenBoards
-pub mod BuiltRows
 pub mod BuiltColumns
 pub mod BuiltCells
-pub mod BuiltNets
 pub mod BuiltNet
 pub mod BuiltWell
 pub mod BoardForms

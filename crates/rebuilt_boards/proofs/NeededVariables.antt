@@ -1,29 +1,27 @@
 -- A product of a unit can be read by its new chip, where each of its literals can.
-use Rattle.std.proofs.Common.{ℕ, zero, suc, ◌≡◌, ◌+◌, ◌<◌, ◌≤◌, Bool, true, false, cond, ◌||◌, List, [], ◌∷◌, length, Option, Some, None, refl, sym, ap, ◌∙◌, subst, inl, inr, ◌⊎◌, eqb, eqb-true, ltb, le-ltb, arith}
+use Rattle.std.proofs.Common.{ℕ, zero, suc, ◌≡◌, ◌+◌, ◌<◌, ◌≤◌, Bool, true, false, cond, ◌||◌, List, ◌∷◌, length, Option, Some, None, refl, sym, ap, ◌∙◌, subst, inl, inr, ◌⊎◌, ltb, le-ltb, arith}
 use Rattle.std.specs.Prelude.{option_and_then}
 use Rattle.std.specs.List.{list_any, flat_map, slice_get}
-use Rattle.std.specs.Option.{option_map}
-use Rattle.std.proofs.lemmas.Option.{same_Some, slice_get-map}
+use Rattle.std.proofs.lemmas.Option.{same_Some}
 use Rattle.mig_base.specs.declared.circuit.Read.{Read}
 use Rattle.mig_base.specs.declared.circuit.Read.TheVariants.{OfNet, OfRegister}
 use Rattle.mig_base.specs.declared.circuit.Literal.{Literal}
 use Rattle.mig_base.specs.First.{made_from}
-use Rattle.mig_base.specs.Accepted.{Among}
+use Rattle.mig_base.specs.Among.{Among}
 use Rattle.mig_base.specs.declared.nets.Net.{Net}
-use Rattle.mig_base.specs.declared.circuit.Driver.{Driver}
-use Rattle.mig_base.specs.declared.circuit.Gate.TheVariants.{Product}
-use Rattle.mig_base.specs.declared.circuit.Gives.TheVariants.{Sum}
 use Rattle.mig_base.specs.DeviceTables.{is_22}
-use Rattle.mig_base.specs.Boards.{ChipUnit, driver_of, circuit_on}
+use Rattle.mig_base.specs.Boards.{ChipUnit, circuit_on}
 use Rattle.mig_base.specs.Structure.{same_read, alias_of, all_variables, variable_literal, variable_product}
-use Rattle.new_board.specs.NewChip.{OldBoard, NewChip, unit_on, private_from, fixed_net, or_option, alias_net, is_register_of, is_read, driver_products, reset_products, first_register, chip_products, needed_variables}
-use Rattle.new_board.specs.InputPins.{has_no_driver, wire_for, input_at, input_pins, pin_net, reading_pin}
+use Rattle.new_board.specs.NewChip.{OldBoard, NewChip, unit_on, register_driven, private_from, fixed_net, or_option, alias_net, is_register_of, is_read, products_by, unit_products, control_products, chip_products, needed_variables, has_no_driver}
+use Rattle.new_board.specs.OneForOne.{old_rows, terms_over}
+use Rattle.new_board.specs.InputPins.{wire_for, input_at, input_pins, pin_net, reading_pin}
 use Rattle.new_board.proofs.Items.{among-filter, among-unfilter, among-any, among-left, among-flat_map, among-map}
 use Rattle.new_board.proofs.Variables.{same-read, AreVariables, product-among}
-use Rattle.rebuilt_boards.proofs.Columns.{first-among}
-use Rattle.rebuilt_boards.proofs.Reading.{EnableApart, Stood, IsWired, needed-readable}
+use Rattle.new_board.proofs.Columns.{first-among}
+use Rattle.new_board.proofs.Reading.{EnableApart, Stood, IsWired, needed-readable}
 use Rattle.rebuilt_boards.proofs.RebuiltCircuit.{board_of}
-use Rattle.rebuilt_boards.proofs.Combinational.{ProductFits, IsComb, old_terms, old-driver}
+use Rattle.new_board.proofs.WellMade.{on-unit}
+use Rattle.rebuilt_boards.proofs.Combinational.{ProductFits, IsComb, old_terms, comb_rows, unit-driver, comb-rows}
 
 -- a literal of the old board whose variable the new chip can read
 pub record LiteralFits (b : OldBoard) (chip : NewChip) (x : Literal) : Type 0 where
@@ -84,26 +82,18 @@ input-undriven b chip pin n none e high =
     at None e = cc
     at (Some v) e = wired-undriven b v n e high
 
-pub on-among : (xs : List (ℕ × ℕ)) (pin i : ℕ) → unit_on xs pin ≡ Some i → Among {T = ℕ × ℕ} (pin, i) xs
-on-among [] pin i e = cc
-on-among (x ∷ xs) pin i e = at (eqb x.0 pin) refl e (on-among xs pin i)
-  where
-    at : (q : Bool) → eqb x.0 pin ≡ q → cond q (Some x.1) (unit_on xs pin) ≡ Some i → (unit_on xs pin ≡ Some i → Among {T = ℕ × ℕ} (pin, i) xs) → Among {T = ℕ × ℕ} (pin, i) (x ∷ xs)
-    at true is e rest =
-        let pins : x.0 ≡ pin = eqb-true x.0 pin is in
-        let units : x.1 ≡ i = same_Some x.1 i e in
-        inl (λ k. (sym pins k, sym units k))
-    at false is e rest = inr (rest e)
-
 -- the products of a combinational unit are among the rows of its chip
-pub comb-products : (net : Net) (units : List ChipUnit) (chip : NewChip) (i : ℕ) (u : ChipUnit) (t : List Literal) → unit_on chip.units u.cell.pin ≡ Some i → slice_get units i ≡ Some u →
+pub comb-products : (net : Net) (units : List ChipUnit) (chip : NewChip) (i : ℕ) (u : ChipUnit) (t : List Literal) →
+    unit_on chip.units u.cell.pin ≡ Some (old_rows (circuit_on net units) u.cell.pin i) → slice_get units i ≡ Some u →
     (f : IsComb (board_of net units) u) → Among t (f.lits ∷ old_terms (board_of net units) u) →
     Among (variable_product (circuit_on net units) t) (chip_products (circuit_on net units) chip)
 comb-products net units chip i u t on e f a =
     let c = circuit_on net units in
-    let products = λ (x : ℕ × ℕ). driver_products c (is_22 chip.kind) (slice_get c.units x.1) in
-    let driver : slice_get c.units i ≡ Some (record { enable = Product f.lits; gives = Sum (old_terms (board_of net units) u); low = u.cell.low }) =
-    slice_get-map (driver_of net units) units i ∙ ap (option_map (driver_of net units)) e ∙ ap (λ (d : Driver). Some d) (old-driver (board_of net units) u f) in
-    among-left (variable_product c t) (flat_map products chip.units) (cond (is_22 chip.kind) (reset_products c (first_register c chip)) [])
-    (among-flat_map products (u.cell.pin, i) (variable_product c t) chip.units (on-among chip.units u.cell.pin i on)
-    (subst (λ (o : Option Driver). Among (variable_product c t) (driver_products c (is_22 chip.kind) o)) (sym driver) (among-map (variable_product c) t (f.lits ∷ old_terms (board_of net units) u) a)))
+    let b = board_of net units in
+    let x = old_rows c u.cell.pin i in
+    let rows : unit_products c chip x ≡ variable_product c f.lits ∷ terms_over c (old_terms b u) =
+    ap (unit_products c chip) (comb-rows net units u.cell.pin i u e f)
+    ∙ ap (λ (o : Option ℕ). products_by (is_22 chip.kind) o (comb_rows b u.cell.pin i u f.lits)) (ap register_driven (unit-driver net units i u e f)) in
+    among-left (variable_product c t) (flat_map (unit_products c chip) chip.units) (control_products c chip)
+    (among-flat_map (unit_products c chip) x (variable_product c t) chip.units (on-unit chip.units u.cell.pin x on).0
+    (subst (λ (ps : List (List Literal)). Among (variable_product c t) ps) (sym rows) (among-map (variable_product c) t (f.lits ∷ old_terms b u) a)))

@@ -9,29 +9,30 @@ use Rattle.mig_base.specs.declared.nets.ChipLine.{ChipLine}
 use Rattle.mig_base.specs.declared.circuit.Read.{Read}
 use Rattle.mig_base.specs.declared.circuit.Read.TheVariants.{OfNet}
 use Rattle.mig_base.specs.declared.circuit.Gate.{Gate}
-use Rattle.mig_base.specs.declared.circuit.Gate.TheVariants.{Product}
 use Rattle.mig_base.specs.declared.circuit.Driver.{Driver}
 use Rattle.mig_base.specs.declared.circuit.Wire.{Wire}
-use Rattle.mig_base.specs.Accepted.{Among, is_fixed}
+use Rattle.mig_base.specs.Accepted.{is_fixed}
+use Rattle.mig_base.specs.Among.{Among}
 use Rattle.mig_base.specs.Values.{row_reads}
 use Rattle.mig_base.specs.WellFormed.{is_reg}
 use Rattle.mig_base.specs.Boards.{ChipUnit, net_of, is_registered, low_pin, can_drive, driver_of, makes_unit, units_from, circuit_on}
-use Rattle.mig_base.specs.Structure.{alias_of, alias_only, variable_product}
+use Rattle.mig_base.specs.Structure.{alias_of, alias_only}
 use Rattle.new_board.specs.NewChip.{NewChip}
-use Rattle.new_board.specs.NewFiles.{new_comb, new_cell}
+use Rattle.new_board.specs.NewFiles.{new_cell}
 use Rattle.new_board.specs.OneForOne.{same_chip, same_chips}
 use Rattle.taken_boards.specs.TakenBoards.{is_undriven}
 use Rattle.new_board.proofs.Items.{among-get, get-among}
-use Rattle.rebuilt_boards.proofs.Wiring.{LinesFit}
-use Rattle.rebuilt_boards.proofs.RebuiltCircuit.{board_of, chip_at, rebuilt_unit, rebuilt_units, rebuilt_net, kept_of}
-use Rattle.rebuilt_boards.proofs.Combinational.{old_terms, comb-cell, comb-enabled}
+use Rattle.new_board.proofs.Wiring.{LinesFit}
+use Rattle.rebuilt_boards.proofs.RebuiltCircuit.{board_of, chip_at, rebuilt_unit, rebuilt_units}
+use Rattle.new_board.proofs.NewWiring.{rebuilt_net, kept_of}
+use Rattle.rebuilt_boards.proofs.Combinational.{comb_made, comb-cell, comb-enabled}
 use Rattle.rebuilt_boards.proofs.PalCells.{pal16-table}
 use Rattle.rebuilt_boards.proofs.PalUnits.{ArePals, IsPalChip, IsPalUnit, unit-chip_at, unit-on, UnitsStay}
 use Rattle.rebuilt_boards.proofs.Undriven.{IsUndriven, NamesFit}
 use Rattle.rebuilt_boards.proofs.Undriven.{wire-undriven}
-use Rattle.rebuilt_boards.proofs.KeptNumbers.{old_kept, kept-numbers}
+use Rattle.new_board.proofs.KeptNumbers.{old_kept, kept-numbers}
 use Rattle.rebuilt_boards.proofs.AliasNets.{FixedFit}
-use Rattle.rebuilt_boards.proofs.RegisterUnits.{IsCombUnit, IsRegUnit, unit-cases, comb-unregistered, reg-registered, comb-of, reg-driver, first-is, first-found}
+use Rattle.rebuilt_boards.proofs.RegisterUnits.{IsCombUnit, IsRegUnit, unit-cases, comb-unregistered, reg-registered, comb-of, reg-driver, first-is, first-rows, first-found}
 use Rattle.rebuilt_boards.proofs.EnablePins.{HasRegister, enable-pin, same-constants}
 use Rattle.rebuilt_boards.proofs.Registered.{low-high, reg_made, reg-cell, RegStands, new-reg_driver, low-drive}
 use Rattle.rebuilt_boards.proofs.PalReads.{IsChip, holds-units}
@@ -93,7 +94,7 @@ pub register-chip : (net : Net) (chips : List ChipCells) (i : ℕ) (u : ChipUnit
     HasRegister net chips u.chip p.line u.cells
 register-chip net chips i u board p e r =
     let units = units_from 0 chips in
-    let chip = same_chip units u.chip p.line u.cells in
+    let chip = same_chip (board_of net units) u.chip p.line u.cells in
     let holds = holds-units net chips u.chip p.line u.cells (unit-board_chip net chips u board p) in
     let first = first-found net units u.chip chip u.cell.pin i holds (record { unit = u; found = e; place = refl }) r in
     record {
@@ -104,6 +105,7 @@ register-chip net chips i u board p e r =
       first = first.0;
       unit = first-is net units u.chip chip first.0 holds first.1;
       first_is = first.1;
+      rows = first-rows net units u.chip chip first.0 holds first.1;
     }
 
 -- the kind of each new chip
@@ -112,8 +114,7 @@ new-kind net chips u p = ap (λ (c : NewChip). c.kind) (unit-chip_at net chips u
 
 pub comb-new_cell : (net : Net) (chips : List ChipCells) (u : ChipUnit) → IsPalBoard net chips → (a : Among u (units_from 0 chips)) (c : IsCombUnit net chips u) →
     new_cell (board_of net (units_from 0 chips)) (chip_at (same_chips net chips) u.chip) u.cell.pin
-    ≡ new_comb (board_of net (units_from 0 chips)) (chip_at (same_chips net chips) u.chip) u.cell.pin u.cell.low
-    (Product (variable_product (circuit_on net (units_from 0 chips)) (comb-of net chips u c).lits)) (old_terms (board_of net (units_from 0 chips)) u)
+    ≡ comb_made (board_of net (units_from 0 chips)) (chip_at (same_chips net chips) u.chip) u (comb-of net chips u c).lits
 comb-new_cell net chips u board a c =
     let i = get-among u (units_from 0 chips) a in
     comb-cell net (units_from 0 chips) (chip_at (same_chips net chips) u.chip) i.0 u (unit-on net chips i.0 u board.pals i.1) i.1 (comb-of net chips u c)

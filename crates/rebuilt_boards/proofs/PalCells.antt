@@ -20,7 +20,7 @@ use Rattle.mig_base.specs.declared.cells.ChipError.TheVariants.{Count}
 use Rattle.mig_base.specs.declared.nets.Net.{Net}
 use Rattle.mig_base.specs.declared.circuit.Gate.TheVariants.{Product}
 use Rattle.mig_base.specs.First.{made_from}
-use Rattle.mig_base.specs.Accepted.{Among}
+use Rattle.mig_base.specs.Among.{Among}
 use Rattle.mig_base.specs.DeviceTables.{is_pal16, pair_pins, cell_pins, ordinary_pins, enable_pin, pal_registers, array_width, even_reads_q, is_22, has_count}
 use Rattle.mig_base.specs.Cells.{row_at, is_among, pair_columns, columns_of, lits_of, term_of, terms_of, enable_of, comb_by, comb_cell, reg_cell, cell_place, pal_row, pal_rows, pal_cell, pal_cells, cells_by_kind, cells_of}
 use Rattle.mig_base.specs.Boards.{ChipUnit, literals_of, enable_on, makes_unit}

@@ -1,42 +1,42 @@
 -- The board that is built for a board of PAL16 chips stands for it.
-use Rattle.std.proofs.Common.{ℕ, ◌≡◌, ◌-◌, ◌<◌, ◌≤◌, true, cond, List, [], length, Option, Some, None, refl, sym, ap, ◌∙◌, subst, inl, inr, ◌⊎◌, arith}
+use Rattle.std.proofs.Common.{ℕ, ◌≡◌, ◌-◌, ◌<◌, ◌≤◌, true, cond, List, [], ◌++◌, length, Option, Some, None, refl, sym, ap, ◌∙◌, subst, inl, inr, ◌⊎◌, arith}
 use Rattle.std.specs.List.{slice_get, flat_map}
-use Rattle.std.specs.Option.{option_map}
-use Rattle.std.proofs.lemmas.Option.{same_Some, slice_get_within, slice_get-map}
+use Rattle.std.proofs.lemmas.Option.{same_Some, slice_get_within}
 use Rattle.mig_base.specs.declared.cells.Lit.{Lit}
 use Rattle.mig_base.specs.declared.cells.ChipCells.{ChipCells}
 use Rattle.mig_base.specs.declared.nets.Net.{Net}
 use Rattle.mig_base.specs.declared.nets.ChipLine.{ChipLine}
 use Rattle.mig_base.specs.declared.circuit.Read.TheVariants.{OfRegister}
 use Rattle.mig_base.specs.declared.circuit.Literal.{Literal}
-use Rattle.mig_base.specs.declared.circuit.Gives.TheVariants.{Visible}
 use Rattle.mig_base.specs.declared.circuit.Driver.{Driver}
-use Rattle.mig_base.specs.declared.circuit.Register.{Register}
 use Rattle.mig_base.specs.declared.circuit.Levels.{Levels}
-use Rattle.mig_base.specs.Accepted.{Among}
+use Rattle.mig_base.specs.Among.{Among}
 use Rattle.mig_base.specs.Values.{source_level, literal_value}
 use Rattle.mig_base.specs.DeviceTables.{pair_pins, is_22}
 use Rattle.mig_base.specs.Boards.{ChipUnit, at_of, is_port, net_of, is_registered, registers_of, read_of, literals_of, low_pin, driver_of, register_of, units_from, circuit_on}
 use Rattle.mig_base.specs.Structure.{variable_product, variable_gate}
-use Rattle.settle.specs.Follows.{SameAt}
-use Rattle.new_board.specs.NewChip.{NewChip, register_on, read_by, driver_products, reset_products, register_terms, gate_products, first_register, chip_products}
+use Rattle.level_laws.specs.Follows.{SameAt}
+use Rattle.new_board.specs.NewChip.{NewChip, register_on, register_driven, read_by, products_by, unit_products, control_products, gate_products, chip_products}
 use Rattle.new_board.specs.InputPins.{pin_net, pin_reads}
-use Rattle.new_board.specs.OneForOne.{same_chip, same_chips}
+use Rattle.new_board.specs.OneForOne.{terms_over, old_rows, same_chip, same_chips}
+use Rattle.new_board.proofs.WellMade.{on-unit}
 use Rattle.new_board.proofs.Items.{among-get, get-among, among-unfilter, among-map, among-unmap, among-left, among-flat_map}
 use Rattle.new_board.proofs.Variables.{AliasesFit}
-use Rattle.rebuilt_boards.proofs.Columns.{source_at, RegistersFit}
-use Rattle.rebuilt_boards.proofs.RebuiltCircuit.{board_of, chip_at, rebuilt_unit, rebuilt_units, rebuilt_net}
+use Rattle.new_board.proofs.Columns.{source_at, RegistersFit}
+use Rattle.rebuilt_boards.proofs.RebuiltCircuit.{board_of, chip_at, rebuilt_unit, rebuilt_units}
+use Rattle.new_board.proofs.NewWiring.{rebuilt_net}
 use Rattle.rebuilt_boards.proofs.RebuiltFollows.{old_read, IsKept, DriverFits, RegisterFits, BoardFits}
 use Rattle.rebuilt_boards.proofs.Combinational.{new_place, PinsFit, ProductFits, CombFits, old_terms, comb-drives, reads-net, net-kept, net-value}
 use Rattle.rebuilt_boards.proofs.PalCells.{AreColumnLits}
 use Rattle.rebuilt_boards.proofs.PalUnits.{IsPalUnit, unit-chip_at, unit-on, new-same}
-use Rattle.rebuilt_boards.proofs.NeededVariables.{LiteralFits, product-fits, on-among, comb-products}
-use Rattle.rebuilt_boards.proofs.KeptNets.{places-get}
-use Rattle.rebuilt_boards.proofs.KeptNumbers.{kept-numbers, kept-ports}
+use Rattle.rebuilt_boards.proofs.NeededVariables.{LiteralFits, product-fits, comb-products}
+use Rattle.rebuilt_boards.proofs.OldRows.{old-reg}
+use Rattle.new_board.proofs.KeptNets.{places-get}
+use Rattle.new_board.proofs.KeptNumbers.{kept-numbers, kept-ports}
 use Rattle.rebuilt_boards.proofs.AliasNets.{aliases-fit}
-use Rattle.rebuilt_boards.proofs.RegisterUnits.{IsCombUnit, IsRegUnit, unit-cases, reg-registered, reg-unit, comb-of, register_number, reg-driver, register-get, registers-fit}
+use Rattle.rebuilt_boards.proofs.RegisterUnits.{IsCombUnit, IsRegUnit, unit-cases, reg-registered, reg-unit, comb-of, register_number, register-get, registers-fit}
 use Rattle.rebuilt_boards.proofs.EnablePins.{clock-pin}
-use Rattle.rebuilt_boards.proofs.Registered.{reg-drives, reg-takes}
+use Rattle.rebuilt_boards.proofs.Registered.{reg_rows, registered-driver, reg-drives, reg-takes}
 use Rattle.rebuilt_boards.proofs.PalReads.{IsChip, holds-units, chip-enable, column-literal}
 use Rattle.rebuilt_boards.proofs.PalBoards.{IsPalBoard, board-chip, unit-board_chip, register-chip, board-registered, reg-stands}
 use Rattle.rebuilt_boards.proofs.PalPins.{board-units, board-pin, board_old, register-place, net-place}
@@ -47,7 +47,7 @@ board-pins net chips j chip board found = record {
   registers =
       let s = new-same net chips j chip board.pals found in
       let c = board-chip net chips j s.line s.cells board s.line_is s.cells_is s.pal in
-      subst (RegistersFit (board_of net (units_from 0 chips))) (sym s.chip_is) (registers-fit net (units_from 0 chips) j (same_chip (units_from 0 chips) j s.line s.cells) (holds-units net chips j s.line s.cells c));
+      subst (RegistersFit (board_of net (units_from 0 chips))) (sym s.chip_is) (registers-fit net (units_from 0 chips) j (same_chip (board_of net (units_from 0 chips)) j s.line s.cells) (holds-units net chips j s.line s.cells c));
   kept = λ pin y a e. kept pin y a e (register_on (circuit_on net (units_from 0 chips)) chip pin) refl;
   value = λ l m pin y a e aliases same. value l m pin y a e aliases same (register_on (circuit_on net (units_from 0 chips)) chip pin) refl;
 }
@@ -85,10 +85,10 @@ board-pins net chips j chip board found = record {
 -- products that the new chip of a unit can read
 
 columns-fit : (net : Net) (chips : List ChipCells) (j : ℕ) (line : ChipLine) (cells : ChipCells) (plits : List Lit) → IsChip net chips j line cells → AreColumnLits line.kind plits →
-    (x : Literal) → Among x (literals_of net (units_from 0 chips) j plits) → LiteralFits (board_of net (units_from 0 chips)) (same_chip (units_from 0 chips) j line cells) x
+    (x : Literal) → Among x (literals_of net (units_from 0 chips) j plits) → LiteralFits (board_of net (units_from 0 chips)) (same_chip (board_of net (units_from 0 chips)) j line cells) x
 columns-fit net chips j line cells plits c columns x a =
     let y = among-unmap (λ (lit : Lit). record { source = read_of net (units_from 0 chips) j lit.source; high = lit.high }) x plits a in
-    subst (LiteralFits (board_of net (units_from 0 chips)) (same_chip (units_from 0 chips) j line cells)) (sym y.2) (column-literal net chips j line cells y.0 c (columns.each y.0 y.1))
+    subst (LiteralFits (board_of net (units_from 0 chips)) (same_chip (board_of net (units_from 0 chips)) j line cells)) (sym y.2) (column-literal net chips j line cells y.0 c (columns.each y.0 y.1))
 
 pub unit-product : (net : Net) (chips : List ChipCells) (u : ChipUnit) (plits : List Lit) (board : IsPalBoard net chips) (p : IsPalUnit net chips u) → AreColumnLits p.line.kind plits →
     Among (variable_product (circuit_on net (units_from 0 chips)) (literals_of net (units_from 0 chips) u.chip plits)) (chip_products (circuit_on net (units_from 0 chips)) (chip_at (same_chips net chips) u.chip)) →
@@ -98,7 +98,7 @@ unit-product net chips u plits board p columns a =
     let c = unit-board_chip net chips u board p in
     let chip = unit-chip_at net chips u p in
     subst (λ (x : NewChip). ProductFits b x (literals_of net (units_from 0 chips) u.chip plits)) (sym chip)
-    (product-fits b (same_chip (units_from 0 chips) u.chip p.line u.cells) (literals_of net (units_from 0 chips) u.chip plits) (chip-enable net chips u.chip p.line u.cells c)
+    (product-fits b (same_chip (board_of net (units_from 0 chips)) u.chip p.line u.cells) (literals_of net (units_from 0 chips) u.chip plits) (chip-enable net chips u.chip p.line u.cells c)
     (columns-fit net chips u.chip p.line u.cells plits c columns)
     (subst (λ (x : NewChip). Among (variable_product b.circuit (literals_of net (units_from 0 chips) u.chip plits)) (chip_products b.circuit x)) chip a))
 
@@ -125,20 +125,21 @@ reg-products : (net : Net) (chips : List ChipCells) (i : ℕ) (u : ChipUnit) (t 
     Among (variable_product (circuit_on net (units_from 0 chips)) t) (chip_products (circuit_on net (units_from 0 chips)) (chip_at (same_chips net chips) u.chip))
 reg-products net chips i u t board e r a =
     let units = units_from 0 chips in
+    let b = board_of net units in
     let c = circuit_on net units in
     let chip = chip_at (same_chips net chips) u.chip in
+    let pin = u.cell.pin in
     let k = register_number units (at_of u) in
-    let gate = variable_gate c (low_pin (net_of net (u.chip, 11))) in
-    let products = λ (x : ℕ × ℕ). driver_products c (is_22 chip.kind) (slice_get c.units x.1) in
-    let driver : slice_get c.units i ≡ Some (record { enable = low_pin (net_of net (u.chip, 11)); gives = Visible k; low = u.cell.pin_low }) =
-    slice_get-map (driver_of net units) units i ∙ ap (option_map (driver_of net units)) e ∙ ap (λ (d : Driver). Some d) (reg-driver net chips u r) in
+    let x = old_rows c pin i in
+    let driver = registered-driver net chips i u e r in
     let register = register-get net chips u board.pals (among-get units i u e) (reg-registered net chips u r) in
-    let here : Among (variable_product c t) (register_terms c (slice_get c.registers k)) =
-    subst (λ (o : Option Register). Among (variable_product c t) (register_terms c o)) (sym register) (among-map (variable_product c) t (old_terms (board_of net units) u) a) in
-    among-left (variable_product c t) (flat_map products chip.units) (cond (is_22 chip.kind) (reset_products c (first_register c chip)) [])
-    (among-flat_map products (u.cell.pin, i) (variable_product c t) chip.units (on-among chip.units u.cell.pin i (unit-on net chips i u board.pals e))
-    (subst (λ (o : Option Driver). Among (variable_product c t) (driver_products c (is_22 chip.kind) o)) (sym driver)
-    (among-left (variable_product c t) (register_terms c (slice_get c.registers k)) (cond (is_22 chip.kind) (gate_products gate) []) here)))
+    let by_row = cond (is_22 chip.kind) (gate_products (variable_gate c (low_pin (net_of net (u.chip, 11))))) [] in
+    let rows : unit_products c chip x ≡ terms_over c (old_terms b u) ++ by_row =
+    ap (unit_products c chip) (old-reg c pin i k _ _ driver refl register) ∙ ap (λ (o : Option Driver). products_by (is_22 chip.kind) (register_driven o) (reg_rows b pin i u)) driver in
+    among-left (variable_product c t) (flat_map (unit_products c chip) chip.units) (control_products c chip)
+    (among-flat_map (unit_products c chip) x (variable_product c t) chip.units (on-unit chip.units pin x (unit-on net chips i u board.pals e)).0
+    (subst (λ (ps : List (List Literal)). Among (variable_product c t) ps) (sym rows)
+    (among-left (variable_product c t) (terms_over c (old_terms b u)) by_row (among-map (variable_product c) t (old_terms b u) a))))
 
 pub reg-term : (net : Net) (chips : List ChipCells) (i : ℕ) (u : ChipUnit) (t : List Literal) → IsPalBoard net chips → slice_get (units_from 0 chips) i ≡ Some u → IsRegUnit net chips u →
     Among t (old_terms (board_of net (units_from 0 chips)) u) → ProductFits (board_of net (units_from 0 chips)) (chip_at (same_chips net chips) u.chip) t

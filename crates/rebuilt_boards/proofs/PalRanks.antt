@@ -13,11 +13,11 @@ use Rattle.mig_base.specs.declared.circuit.Driver.{Driver}
 use Rattle.mig_base.specs.declared.circuit.Register.{Register}
 use Rattle.mig_base.specs.declared.circuit.Wire.{Wire}
 use Rattle.mig_base.specs.declared.circuit.Circuit.{Circuit}
-use Rattle.mig_base.specs.Accepted.{Among}
+use Rattle.mig_base.specs.Among.{Among}
 use Rattle.mig_base.specs.Values.{row_reads, sum_reads}
 use Rattle.mig_base.specs.Reads.{gives_reads, driver_reads, reads_of_wire, reads_of_register, node_reads}
 use Rattle.mig_base.specs.declared.circuit.Gives.{Gives}
-use Rattle.settle.specs.Settled.{Ranked}
+use Rattle.mig_base.specs.Ranked.{Ranked}
 use Rattle.taken_boards.specs.TakenBoards.{is_undriven, is_undriven_wire}
 use Rattle.taken_boards.specs.TakenBoards.{gives_sum, is_combinational, is_combinational_wire, is_combinational_net}
 use Rattle.mig_base.specs.Boards.{ChipUnit, at_of, is_registered, registers_of, driver_of, register_of, units_from, circuit_on}

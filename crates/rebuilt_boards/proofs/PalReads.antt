@@ -22,34 +22,34 @@ use Rattle.mig_base.specs.declared.circuit.Literal.{Literal}
 use Rattle.mig_base.specs.declared.circuit.Gives.{Gives}
 use Rattle.mig_base.specs.declared.circuit.Gives.TheVariants.{Sum, Visible}
 use Rattle.mig_base.specs.declared.circuit.Driver.{Driver}
-use Rattle.mig_base.specs.declared.circuit.Register.{Register}
 use Rattle.mig_base.specs.declared.circuit.Wire.{Wire}
 use Rattle.mig_base.specs.declared.circuit.Circuit.{Circuit}
 use Rattle.mig_base.specs.First.{made_from}
-use Rattle.mig_base.specs.Accepted.{Among}
+use Rattle.mig_base.specs.Among.{Among}
 use Rattle.mig_base.specs.DeviceTables.{pair_pins, ordinary_pins, is_ordinary, cell_pins, pal_registers, enable_pin, is_v8, is_22}
 use Rattle.mig_base.specs.Cells.{is_among, pal_cell}
 use Rattle.mig_base.specs.WellFormed.{is_reg}
 use Rattle.mig_base.specs.Boards.{At, ChipUnit, at_of, pins_from, net_of, is_registered, register_of, read_of, literals_of, driver_of, drives, can_drive, places_from, kinds_of, is_unit, makes_unit, units_from, circuit_on}
 use Rattle.mig_base.specs.Structure.{same_read, alias_of, or_alias, all_variables, variable_by, variable_literal, variable_of}
-use Rattle.new_board.specs.NewChip.{OldBoard, NewChip, unit_on, unit_net, unit_net_of, unit_register, register_on, first_registered, clock_net, private_from, is_register_of, read_by, is_literal_of, is_read_at, is_read, fixed_net, or_option}
-use Rattle.new_board.specs.InputPins.{has_no_driver, stood_on}
-use Rattle.new_board.specs.OneForOne.{same_chip}
+use Rattle.new_board.specs.NewChip.{OldBoard, NewChip, unit_on, unit_net, unit_net_of, placed_register, register_on, first_registered, placed_clock, clock_net, private_from, is_register_of, read_by, is_literal_of, is_read_at, is_read, fixed_net, or_option, has_no_driver}
+use Rattle.new_board.specs.InputPins.{stood_on}
+use Rattle.new_board.specs.declared.types.PlacedUnit.{PlacedUnit}
+use Rattle.new_board.specs.OneForOne.{old_rows, same_chip}
 use Rattle.new_board.proofs.Items.{get-among, among-get, among-filter, among-unfilter, among-map, any-among, among-any}
 use Rattle.new_board.proofs.Variables.{same-read, net-variable, register-variable, among-made_from}
-use Rattle.rebuilt_boards.proofs.Columns.{among-first}
-use Rattle.rebuilt_boards.proofs.Wiring.{LinesFit, among-pins, private-own, wire_of}
-use Rattle.rebuilt_boards.proofs.Reading.{EnableApart, IsFree, Stood, IsWired}
+use Rattle.new_board.proofs.Columns.{among-first}
+use Rattle.new_board.proofs.Wiring.{LinesFit, among-pins, private-own, wire_of}
+use Rattle.new_board.proofs.Reading.{EnableApart, IsFree, Stood, IsWired}
 use Rattle.rebuilt_boards.proofs.RebuiltCircuit.{board_of, old-wire}
 use Rattle.rebuilt_boards.proofs.Placing.{IsUnitAt}
 use Rattle.rebuilt_boards.proofs.PalCells.{IsColumnLit, pal-reg, pal-pin, pal16-table}
 use Rattle.rebuilt_boards.proofs.PalUnits.{ArePals, IsPalChip, pal-unit, pal-apart, unit-among, unit-passes, among-of}
 use Rattle.rebuilt_boards.proofs.Undriven.{IsUndriven, NamesFit, undriven-variable, undriven-wired, same-pairs, column-ordinary}
-use Rattle.rebuilt_boards.proofs.NeededVariables.{LiteralFits, alias-net, on-among}
-use Rattle.rebuilt_boards.proofs.KeptNets.{places-get}
+use Rattle.rebuilt_boards.proofs.NeededVariables.{LiteralFits, alias-net}
+use Rattle.new_board.proofs.KeptNets.{places-get}
 use Rattle.rebuilt_boards.proofs.AliasNets.{IsAlias, alias-is}
 use Rattle.rebuilt_boards.proofs.Ranges.{net-within}
-use Rattle.rebuilt_boards.proofs.RegisterUnits.{reg-unit, register_number, number_if, unit-register, register-get, HoldsUnits, listed-unit, listed-on, first-is}
+use Rattle.rebuilt_boards.proofs.RegisterUnits.{reg-unit, register_number, number_if, unit-register, register-get, HoldsUnits, listed-on, listed-at, on-register, first-is}
 
 -- a chip of such a board
 pub record IsChip (net : Net) (chips : List ChipCells) (j : ℕ) (line : ChipLine) (cells : ChipCells) : Type 0 where
@@ -61,44 +61,44 @@ pub record IsChip (net : Net) (chips : List ChipCells) (j : ℕ) (line : ChipLin
   pub pal : IsPalChip line cells
   pub constants : (n : ℕ) → n < 2 → alias_of (circuit_on net (units_from 0 chips)) n ≡ None
 
-pub holds-units : (net : Net) (chips : List ChipCells) (j : ℕ) (line : ChipLine) (cells : ChipCells) → IsChip net chips j line cells → HoldsUnits (units_from 0 chips) j (same_chip (units_from 0 chips) j line cells)
+pub holds-units : (net : Net) (chips : List ChipCells) (j : ℕ) (line : ChipLine) (cells : ChipCells) → IsChip net chips j line cells → HoldsUnits (circuit_on net (units_from 0 chips)) (units_from 0 chips) j (same_chip (board_of net (units_from 0 chips)) j line cells)
 holds-units net chips j line cells c = record { placed = refl; apart = pal-apart net.chips chips c.pals }
 
 -- a chip without registered pins has no registered unit
 chip-unregistered : (net : Net) (chips : List ChipCells) (j : ℕ) (line : ChipLine) (cells : ChipCells) → IsChip net chips j line cells → pal_registers line.kind ≡ [] →
-    first_registered (circuit_on net (units_from 0 chips)) (same_chip (units_from 0 chips) j line cells) ≡ None
-chip-unregistered net chips j line cells c none = at (first_registered (circuit_on net (units_from 0 chips)) (same_chip (units_from 0 chips) j line cells)) refl
+    first_registered (circuit_on net (units_from 0 chips)) (same_chip (board_of net (units_from 0 chips)) j line cells) ≡ None
+chip-unregistered net chips j line cells c none = at (first_registered (circuit_on net (units_from 0 chips)) (same_chip (board_of net (units_from 0 chips)) j line cells)) refl
   where
-    at : (o : Option ℕ) → first_registered (circuit_on net (units_from 0 chips)) (same_chip (units_from 0 chips) j line cells) ≡ o → o ≡ None
+    at : (o : Option PlacedUnit) → first_registered (circuit_on net (units_from 0 chips)) (same_chip (board_of net (units_from 0 chips)) j line cells) ≡ o → o ≡ None
     at None e = refl
-    at (Some i) e =
-        let r = first-is net (units_from 0 chips) j (same_chip (units_from 0 chips) j line cells) i (holds-units net chips j line cells c) e in
-        let u = reg-unit net chips r.unit c.pals (among-get (units_from 0 chips) i r.unit r.found) r.registered in
+    at (Some x) e =
+        let r = first-is net (units_from 0 chips) j (same_chip (board_of net (units_from 0 chips)) j line cells) x (holds-units net chips j line cells c) e in
+        let u = reg-unit net chips r.unit c.pals (among-get (units_from 0 chips) x.unit r.unit r.found) r.registered in
         let lines : u.pal.line ≡ line = same_Some u.pal.line line (sym u.pal.line_is ∙ ap (slice_get net.chips) r.chip ∙ c.line_is) in
         let wrong : true ≡ false = sym u.register ∙ ap (λ (l : ChipLine). is_among (pal_registers l.kind) r.unit.cell.pin) lines ∙ ap (λ (ps : List ℕ). is_among ps r.unit.cell.pin) none in
         cc
 
 pub chip-enable : (net : Net) (chips : List ChipCells) (j : ℕ) (line : ChipLine) (cells : ChipCells) → IsChip net chips j line cells →
-    EnableApart (board_of net (units_from 0 chips)) (same_chip (units_from 0 chips) j line cells)
+    EnableApart (board_of net (units_from 0 chips)) (same_chip (board_of net (units_from 0 chips)) j line cells)
 chip-enable net chips j line cells c = record {
   none = λ pin a e.
       let table = pal16-table line.kind c.pal.pal in
-      let chip = same_chip (units_from 0 chips) j line cells in
+      let chip = same_chip (board_of net (units_from 0 chips)) j line cells in
       let test : (is_v8 Gal16V8 && eqb pin (enable_pin Gal16V8)) ≡ true = ap (λ (k : Kind). is_v8 k && eqb pin (enable_pin k)) (sym table.gal) ∙ e in
       let pin_is : pin ≡ 11 = eqb-true pin 11 test in
-      let column : Among pin (pair_pins line.kind Fixed) = subst (Among pin) (same-pairs (units_from 0 chips) j line cells c.pal.pal) a in
+      let column : Among pin (pair_pins line.kind Fixed) = subst (Among pin) (same-pairs (board_of net (units_from 0 chips)) j line cells c.pal.pal) a in
       chip-unregistered net chips j line cells c (table.enable_apart (among-any (λ p. eqb p 11) pin (pair_pins line.kind Fixed) column (eq-eqb pin 11 pin_is)));
 }
 
 -- a pin of a column that is no registered pin, and holds no unit, is free
 free-column : (net : Net) (chips : List ChipCells) (j pin : ℕ) (line : ChipLine) (cells : ChipCells) → IsChip net chips j line cells → Among pin (pair_pins line.kind Fixed) →
-    unit_on (same_chip (units_from 0 chips) j line cells).units pin ≡ None → IsFree (board_of net (units_from 0 chips)) (same_chip (units_from 0 chips) j line cells) pin
+    unit_on (same_chip (board_of net (units_from 0 chips)) j line cells).units pin ≡ None → IsFree (board_of net (units_from 0 chips)) (same_chip (board_of net (units_from 0 chips)) j line cells) pin
 free-column net chips j pin line cells c column none =
     let b = board_of net (units_from 0 chips) in
-    let chip = same_chip (units_from 0 chips) j line cells in
+    let chip = same_chip (board_of net (units_from 0 chips)) j line cells in
     let table = pal16-table line.kind c.pal.pal in
     record {
-      column = subst (Among pin) (sym (same-pairs (units_from 0 chips) j line cells c.pal.pal)) column;
+      column = subst (Among pin) (sym (same-pairs (board_of net (units_from 0 chips)) j line cells c.pal.pal)) column;
       ordinary = subst (λ (k : Kind). Among pin (ordinary_pins k)) (sym table.gal) (column-ordinary line.kind pin c.pal.pal column);
       no_unit = none;
       no_clock = at (eqb pin 1) refl;
@@ -108,11 +108,11 @@ free-column net chips j pin line cells c column none =
     right-false true = refl
     right-false false = refl
 
-    at : (q : Bool) → eqb pin 1 ≡ q → (q && is_some (clock_net (circuit_on net (units_from 0 chips)) (same_chip (units_from 0 chips) j line cells))) ≡ false
+    at : (q : Bool) → eqb pin 1 ≡ q → (q && is_some (clock_net (circuit_on net (units_from 0 chips)) (same_chip (board_of net (units_from 0 chips)) j line cells))) ≡ false
     at true e =
         let table = pal16-table line.kind c.pal.pal in
-        let clock : clock_net (circuit_on net (units_from 0 chips)) (same_chip (units_from 0 chips) j line cells) ≡ None =
-        ap (λ (o : Option ℕ). option_map (λ (r : Register). r.clock) (option_and_then (slice_get (circuit_on net (units_from 0 chips)).registers) (option_and_then (unit_register (circuit_on net (units_from 0 chips))) o)))
+        let clock : clock_net (circuit_on net (units_from 0 chips)) (same_chip (board_of net (units_from 0 chips)) j line cells) ≡ None =
+        ap (option_and_then (placed_clock (circuit_on net (units_from 0 chips))))
         (chip-unregistered net chips j line cells c (table.clock_apart (among-any (λ p. eqb p 1) pin (pair_pins line.kind Fixed) column e))) in
         ap (λ (o : Option ℕ). is_some o) clock
     at false e = refl
@@ -200,7 +200,7 @@ column-pin net chips j pin line cells c column =
 
 -- a private net on which a pin without unit stands has no driver
 private-undriven : (net : Net) (chips : List ChipCells) (j pin : ℕ) (line : ChipLine) (cells : ChipCells) → IsChip net chips j line cells → Among (j, pin) (pins_from 0 net.chips) →
-    unit_on (same_chip (units_from 0 chips) j line cells).units pin ≡ None → private_from net ≤ net_of net (j, pin) → IsUndriven (circuit_on net (units_from 0 chips)) (net_of net (j, pin))
+    unit_on (same_chip (board_of net (units_from 0 chips)) j line cells).units pin ≡ None → private_from net ≤ net_of net (j, pin) → IsUndriven (circuit_on net (units_from 0 chips)) (net_of net (j, pin))
 private-undriven net chips j pin line cells c a none high =
     let units = units_from 0 chips in
     let n = net_of net (j, pin) in
@@ -223,8 +223,8 @@ private-undriven net chips j pin line cells c a none high =
         among-pins 0 r.0.chip r.0.chip net.chips p.line r.0.cell.pin p.line_is (omega arith)
         (subst (Among r.0.cell.pin) (sym table.ordinary) (among-of (ordinary_pins Gal16V8) r.0.cell.pin (cell_pins p.line.kind) table.cells_ordinary p.pin)) in
         let place : at_of r.0 ≡ (j, pin) = private-own net (j, pin) (at_of r.0) c.lines a its_pin high same in
-        let on = listed-on (units_from 0 chips) j (same_chip (units_from 0 chips) j line cells) pin i (holds-units net chips j line cells c) (record { unit = r.0; found = found; place = place }) in
-        none-some i (sym none ∙ on)
+        let on = listed-on (circuit_on net (units_from 0 chips)) (units_from 0 chips) j (same_chip (board_of net (units_from 0 chips)) j line cells) pin i (holds-units net chips j line cells c) (record { unit = r.0; found = found; place = place }) in
+        none-some (old_rows (circuit_on net (units_from 0 chips)) pin i) (sym none ∙ on)
 
     empty : (w : Wire) → w.drivers ≡ places_from (drives net (units_from 0 chips) (net_of net (j, pin))) 0 (units_from 0 chips) → w.drivers ≡ []
     empty w e = e ∙ by (places_from (drives net (units_from 0 chips) (net_of net (j, pin))) 0 (units_from 0 chips)) apart
@@ -235,7 +235,7 @@ private-undriven net chips j pin line cells c a none high =
 
 -- the variable of the net of such a pin is wired
 free-wired : (net : Net) (chips : List ChipCells) (j pin : ℕ) (line : ChipLine) (cells : ChipCells) → IsChip net chips j line cells → Among (j, pin) (pins_from 0 net.chips) →
-    unit_on (same_chip (units_from 0 chips) j line cells).units pin ≡ None →
+    unit_on (same_chip (board_of net (units_from 0 chips)) j line cells).units pin ≡ None →
     (m : ℕ) × IsWired (board_of net (units_from 0 chips)) (variable_of (circuit_on net (units_from 0 chips)) (net_of net (j, pin))) m
 free-wired net chips j pin line cells c a none = at (cases_lt (net_of net (j, pin)) (private_from net))
   where
@@ -250,8 +250,8 @@ free-wired net chips j pin line cells c a none = at (cases_lt (net_of net (j, pi
 
 -- the register on a pin that is no registered pin
 pub no-register : (net : Net) (chips : List ChipCells) (j pin : ℕ) (line : ChipLine) (cells : ChipCells) → IsChip net chips j line cells → is_among (pal_registers line.kind) pin ≡ false →
-    register_on (circuit_on net (units_from 0 chips)) (same_chip (units_from 0 chips) j line cells) pin ≡ None
-no-register net chips j pin line cells c plain = at (unit_on (same_chip (units_from 0 chips) j line cells).units pin) refl
+    register_on (circuit_on net (units_from 0 chips)) (same_chip (board_of net (units_from 0 chips)) j line cells) pin ≡ None
+no-register net chips j pin line cells c plain = at (unit_on (same_chip (board_of net (units_from 0 chips)) j line cells).units pin) refl
   where
     unit : (u : ChipUnit) (q : Bool) → is_registered u ≡ q → Among u (units_from 0 chips) → at_of u ≡ (j, pin) → number_if q (register_number (units_from 0 chips) (at_of u)) ≡ None
     unit u true r a place =
@@ -261,24 +261,24 @@ no-register net chips j pin line cells c plain = at (unit_on (same_chip (units_f
         cc
     unit u false r a place = refl
 
-    at : (o : Option ℕ) → unit_on (same_chip (units_from 0 chips) j line cells).units pin ≡ o → option_and_then (unit_register (circuit_on net (units_from 0 chips))) o ≡ None
+    at : (o : Option PlacedUnit) → unit_on (same_chip (board_of net (units_from 0 chips)) j line cells).units pin ≡ o → option_and_then (placed_register (circuit_on net (units_from 0 chips))) o ≡ None
     at None e = refl
-    at (Some i) e =
-        let r = listed-unit (units_from 0 chips) j (same_chip (units_from 0 chips) j line cells) (pin, i) (holds-units net chips j line cells c) (on-among _ pin i e) in
-        unit-register net (units_from 0 chips) i r.unit r.found ∙ unit r.unit (is_registered r.unit) refl (among-get (units_from 0 chips) i r.unit r.found) r.place
+    at (Some x) e =
+        let r = listed-at (circuit_on net (units_from 0 chips)) (units_from 0 chips) j (same_chip (board_of net (units_from 0 chips)) j line cells) pin x (holds-units net chips j line cells c) e in
+        unit-register net (units_from 0 chips) x.unit r.unit r.found ∙ unit r.unit (is_registered r.unit) refl (among-get (units_from 0 chips) x.unit r.unit r.found) r.place
 
-fixed-unit : (b : OldBoard) (chip : NewChip) (pin i n : ℕ) → unit_on chip.units pin ≡ Some i → unit_net b i ≡ Some n → fixed_net b chip pin ≡ Some n
-fixed-unit b chip pin i n on its_net = first _ _ n (ap (option_and_then (unit_net b)) on ∙ its_net)
+fixed-unit : (b : OldBoard) (chip : NewChip) (pin : ℕ) (x : PlacedUnit) (n : ℕ) → unit_on chip.units pin ≡ Some x → unit_net b x.unit ≡ Some n → fixed_net b chip pin ≡ Some n
+fixed-unit b chip pin x n on its_net = first _ _ n (ap (option_and_then (λ (y : PlacedUnit). unit_net b y.unit)) on ∙ its_net)
   where
     first : (o other : Option ℕ) (n : ℕ) → o ≡ Some n → or_option o other ≡ Some n
     first o other n e = ap (λ (q : Option ℕ). or_option q other) e
 
 -- a literal of the net of a pin
 pin-literal : (net : Net) (chips : List ChipCells) (j pin : ℕ) (line : ChipLine) (cells : ChipCells) (x : Literal) → IsChip net chips j line cells → Among pin (pair_pins line.kind Fixed) →
-    is_among (pal_registers line.kind) pin ≡ false → x.source ≡ OfNet (net_of net (j, pin)) → LiteralFits (board_of net (units_from 0 chips)) (same_chip (units_from 0 chips) j line cells) x
+    is_among (pal_registers line.kind) pin ≡ false → x.source ≡ OfNet (net_of net (j, pin)) → LiteralFits (board_of net (units_from 0 chips)) (same_chip (board_of net (units_from 0 chips)) j line cells) x
 pin-literal net chips j pin line cells x c column plain e =
     let b = board_of net (units_from 0 chips) in
-    let chip = same_chip (units_from 0 chips) j line cells in
+    let chip = same_chip (board_of net (units_from 0 chips)) j line cells in
     let n = net_of net (j, pin) in
     let a = column-pin net chips j pin line cells c column in
     let w = net-within net (units_from 0 chips) (j, pin) c.lines a in
@@ -288,24 +288,24 @@ pin-literal net chips j pin line cells x c column plain e =
       readable = subst (λ (v : Read). (is_read b chip v ≡ true) ⊎ ((n : ℕ) × Stood b chip v × IsWired b v n)) source (at a (unit_on chip.units pin) refl);
     }
   where
-    at : Among (j, pin) (pins_from 0 net.chips) → (o : Option ℕ) → unit_on (same_chip (units_from 0 chips) j line cells).units pin ≡ o →
-        (is_read (board_of net (units_from 0 chips)) (same_chip (units_from 0 chips) j line cells) (variable_of (circuit_on net (units_from 0 chips)) (net_of net (j, pin))) ≡ true)
-        ⊎ ((m : ℕ) × Stood (board_of net (units_from 0 chips)) (same_chip (units_from 0 chips) j line cells) (variable_of (circuit_on net (units_from 0 chips)) (net_of net (j, pin)))
+    at : Among (j, pin) (pins_from 0 net.chips) → (o : Option PlacedUnit) → unit_on (same_chip (board_of net (units_from 0 chips)) j line cells).units pin ≡ o →
+        (is_read (board_of net (units_from 0 chips)) (same_chip (board_of net (units_from 0 chips)) j line cells) (variable_of (circuit_on net (units_from 0 chips)) (net_of net (j, pin))) ≡ true)
+        ⊎ ((m : ℕ) × Stood (board_of net (units_from 0 chips)) (same_chip (board_of net (units_from 0 chips)) j line cells) (variable_of (circuit_on net (units_from 0 chips)) (net_of net (j, pin)))
         × IsWired (board_of net (units_from 0 chips)) (variable_of (circuit_on net (units_from 0 chips)) (net_of net (j, pin))) m)
-    at a (Some i) on =
+    at a (Some p) on =
         let b = board_of net (units_from 0 chips) in
-        let chip = same_chip (units_from 0 chips) j line cells in
+        let chip = same_chip (board_of net (units_from 0 chips)) j line cells in
         let n = net_of net (j, pin) in
         let v = variable_of b.circuit n in
-        let r = listed-unit (units_from 0 chips) j chip (pin, i) (holds-units net chips j line cells c) (on-among chip.units pin i on) in
-        let its_net : unit_net b i ≡ Some n = ap (unit_net_of b) r.found ∙ ap (λ (q : At). Some (net_of net q)) r.place in
-        inl (among-any (is_read_at b chip v) pin (pair_pins chip.kind chip.mode) (subst (Among pin) (sym (same-pairs (units_from 0 chips) j line cells c.pal.pal)) column)
+        let r = listed-at (circuit_on net (units_from 0 chips)) (units_from 0 chips) j chip pin p (holds-units net chips j line cells c) on in
+        let its_net : unit_net b p.unit ≡ Some n = ap (unit_net_of b) r.found ∙ ap (λ (q : At). Some (net_of net q)) r.place in
+        inl (among-any (is_read_at b chip v) pin (pair_pins chip.kind chip.mode) (subst (Among pin) (sym (same-pairs (board_of net (units_from 0 chips)) j line cells c.pal.pal)) column)
         (ap (λ (o : Option ℕ). is_literal_of v (read_by b.circuit o (fixed_net b chip pin))) (no-register net chips j pin line cells c plain)
-        ∙ ap (λ (o : Option ℕ). is_literal_of v (read_by b.circuit None o)) (fixed-unit b chip pin i n on its_net)
+        ∙ ap (λ (o : Option ℕ). is_literal_of v (read_by b.circuit None o)) (fixed-unit b chip pin p n on its_net)
         ∙ same-read v))
     at a None on =
         let b = board_of net (units_from 0 chips) in
-        let chip = same_chip (units_from 0 chips) j line cells in
+        let chip = same_chip (board_of net (units_from 0 chips)) j line cells in
         let n = net_of net (j, pin) in
         let v = variable_of b.circuit n in
         let table = pal16-table line.kind c.pal.pal in
@@ -342,11 +342,11 @@ register-unit net chips j pin line cells c e =
 -- a literal of a register of the chip
 register-literal : (net : Net) (chips : List ChipCells) (j pin : ℕ) (line : ChipLine) (cells : ChipCells) (x : Literal) → IsChip net chips j line cells → Among pin (pair_pins line.kind Fixed) →
     is_among (pal_registers line.kind) pin ≡ true → x.source ≡ OfRegister (register_number (units_from 0 chips) (j, pin)) →
-    LiteralFits (board_of net (units_from 0 chips)) (same_chip (units_from 0 chips) j line cells) x
+    LiteralFits (board_of net (units_from 0 chips)) (same_chip (board_of net (units_from 0 chips)) j line cells) x
 register-literal net chips j pin line cells x c column register e =
     let units = units_from 0 chips in
     let b = board_of net units in
-    let chip = same_chip units j line cells in
+    let chip = same_chip (board_of net units) j line cells in
     let k = register_number units (j, pin) in
     let u = register-unit net chips j pin line cells c register in
     let place = u.1.place in
@@ -354,23 +354,23 @@ register-literal net chips j pin line cells x c column register e =
     let there = register-get net chips u.1.unit c.pals (among-get units u.0 u.1.unit u.1.found) u.2 in
     let source : OfRegister k ≡ (variable_literal b.circuit x).source = sym (ap (λ (v : Read). (variable_by b.circuit v x).source) e ∙ e) in
     let on : register_on b.circuit chip pin ≡ Some k =
-    ap (option_and_then (unit_register b.circuit)) (listed-on units j chip pin u.0 (holds-units net chips j line cells c) u.1)
+    on-register net units j chip pin u.0 (holds-units net chips j line cells c) u.1
     ∙ unit-register net units u.0 u.1.unit u.1.found ∙ ap (λ (q : Bool). number_if q (register_number units (at_of u.1.unit))) u.2 ∙ ap (λ (i : ℕ). Some i) number in
     record {
       variable = subst (λ (v : Read). Among v (all_variables b.circuit)) source
           (register-variable b.circuit k (slice_get_within b.circuit.registers k (register_of net units u.1.unit) (ap (slice_get b.circuit.registers) (sym number) ∙ there)));
       readable = inl (subst (λ (v : Read). is_read b chip v ≡ true) source
-          (among-any (is_read_at b chip (OfRegister k)) pin (pair_pins chip.kind chip.mode) (subst (Among pin) (sym (same-pairs units j line cells c.pal.pal)) column)
+          (among-any (is_read_at b chip (OfRegister k)) pin (pair_pins chip.kind chip.mode) (subst (Among pin) (sym (same-pairs (board_of net units) j line cells c.pal.pal)) column)
           (ap (λ (o : Option ℕ). is_literal_of (OfRegister k) (read_by b.circuit o (fixed_net b chip pin))) on ∙ same-read (OfRegister k))));
     }
 
 -- the literal of a column can be read by the new chip
 pub column-literal : (net : Net) (chips : List ChipCells) (j : ℕ) (line : ChipLine) (cells : ChipCells) (y : Lit) → IsChip net chips j line cells → IsColumnLit line.kind y →
-    LiteralFits (board_of net (units_from 0 chips)) (same_chip (units_from 0 chips) j line cells) (record { source = read_of net (units_from 0 chips) j y.source; high = y.high })
+    LiteralFits (board_of net (units_from 0 chips)) (same_chip (board_of net (units_from 0 chips)) j line cells) (record { source = read_of net (units_from 0 chips) j y.source; high = y.high })
 column-literal net chips j line cells y c column = at (is_among (pal_registers line.kind) column.pin) refl
   where
     at : (q : Bool) → is_among (pal_registers line.kind) column.pin ≡ q →
-        LiteralFits (board_of net (units_from 0 chips)) (same_chip (units_from 0 chips) j line cells) (record { source = read_of net (units_from 0 chips) j y.source; high = y.high })
+        LiteralFits (board_of net (units_from 0 chips)) (same_chip (board_of net (units_from 0 chips)) j line cells) (record { source = read_of net (units_from 0 chips) j y.source; high = y.high })
     at true e = register-literal net chips j column.pin line cells _ c column.column e
         (ap (read_of net (units_from 0 chips) j) (column.source ∙ ap (λ (q : Bool). cond q (Reg column.pin) (Pin column.pin)) e))
     at false e = pin-literal net chips j column.pin line cells _ c column.column e

@@ -16,12 +16,13 @@ use Rattle.mig_base.specs.declared.circuit.Driver.{Driver}
 use Rattle.mig_base.specs.declared.circuit.Register.{Register}
 use Rattle.mig_base.specs.declared.circuit.Wire.{Wire}
 use Rattle.mig_base.specs.declared.circuit.Circuit.{Circuit}
-use Rattle.mig_base.specs.Accepted.{Among, is_fixed, IsAccepted}
+use Rattle.mig_base.specs.Accepted.{is_fixed, IsAccepted}
+use Rattle.mig_base.specs.Among.{Among}
 use Rattle.mig_base.specs.Values.{row_reads, sum_reads, product_reads}
-use Rattle.settle.specs.Settled.{Ranked}
-use Rattle.settle.specs.SameBehaviour.{ShowsAlike}
-use Rattle.settle.proofs.Loops.{no-loop}
-use Rattle.settle.proofs.FollowsSame.{follows-same}
+use Rattle.mig_base.specs.Ranked.{Ranked}
+use Rattle.level_laws.specs.SameBehaviour.{ShowsAlike}
+use Rattle.ranks.proofs.NoLoops.{no-loop}
+use Rattle.level_laws.proofs.FollowsSame.{follows-same}
 use Rattle.rebuilt_boards.specs.RebuiltBoards.{HasRanks, IsRebuilt, built_net, built_cells}
 use Rattle.new_board.specs.NewFiles.{fitted}
 use Rattle.std.proofs.lemmas.Bool.{cases_lt}
@@ -34,16 +35,14 @@ use Rattle.new_board.specs.InputPins.{pin_net}
 use Rattle.new_board.specs.OneForOne.{same_chips_from, same_chips}
 use Rattle.new_board.proofs.Items.{filter-map, all-of, among-get, get-among, among-unfilter, among-map, among-unmap, among-flat_map}
 use Rattle.new_board.proofs.Variables.{product-among}
-use Rattle.rebuilt_boards.proofs.Reading.{net-number}
-use Rattle.rebuilt_boards.proofs.Columns.{IsReading}
-use Rattle.rebuilt_boards.proofs.RebuiltCircuit.{pin-wire, named-wire, board_of, chip_at, rebuilt_unit, rebuilt_units, rebuilt_net, rebuilt_circuit, IsPin, old-private_wire}
+use Rattle.new_board.proofs.Columns.{IsReading}
+use Rattle.rebuilt_boards.proofs.RebuiltCircuit.{pin-wire, named-wire, board_of, chip_at, rebuilt_unit, rebuilt_units, rebuilt_circuit, IsPin, old-private_wire}
+use Rattle.new_board.proofs.NewWiring.{rebuilt_net}
 use Rattle.rebuilt_boards.proofs.RebuiltFollows.{old_read, IsKept, rebuilt-follows}
 use Rattle.rebuilt_boards.proofs.Combinational.{ReadsAll, enable-all, terms-all, rebuilt_enable, rebuilt_terms, new-driver, old-driver, new_place, old_terms, reads-net}
 use Rattle.rebuilt_boards.proofs.PalUnits.{ArePals, units-rebuilt, unit-chip_at}
-use Rattle.rebuilt_boards.proofs.Undriven.{IsUndriven, undriven-variable}
-use Rattle.rebuilt_boards.proofs.KeptNumbers.{kept-numbers, ports-same}
+use Rattle.new_board.proofs.KeptNumbers.{kept-numbers, ports-same}
 use Rattle.rebuilt_boards.proofs.SameBoards.{same-boards}
-use Rattle.rebuilt_boards.proofs.Undriven.{wire-undriven}
 use Rattle.rebuilt_boards.proofs.AliasNets.{FixedFit, alias-is}
 use Rattle.rebuilt_boards.proofs.RegisterUnits.{comb-unregistered, IsCombUnit, IsRegUnit, unit-cases, reg-unit}
 use Rattle.rebuilt_boards.proofs.Registered.{new-register, new-reg_driver, low-all}
@@ -268,12 +267,12 @@ new-clocks net chips board k r e =
     let f = board-register net chips u.0 board u.1 in
     (w.0, ap (λ (x : Register). slice_get (built net chips).nets x.clock) u.2 ∙ f.clock ∙ w.1, w.2)
 
-length-same : (units : List ChipUnit) (start : ℕ) (lines : List ChipLine) (chips : List ChipCells) (b : OldBoard) → ArePals lines chips →
-    length (map (λ f. f.cells) (map (fitted b) (same_chips_from units start lines chips))) ≡ length chips
-length-same units start [] [] b h = refl
-length-same units start [] (c ∷ cs) b h = absurd h
-length-same units start (l ∷ ls) [] b h = absurd h
-length-same units start (l ∷ ls) (c ∷ cs) b h = ap suc (length-same units (start + 1) ls cs b h.1)
+length-same : (b : OldBoard) (start : ℕ) (lines : List ChipLine) (chips : List ChipCells) → ArePals lines chips →
+    length (map (λ f. f.cells) (map (fitted b) (same_chips_from b start lines chips))) ≡ length chips
+length-same b start [] [] h = refl
+length-same b start [] (c ∷ cs) h = absurd h
+length-same b start (l ∷ ls) [] h = absurd h
+length-same b start (l ∷ ls) (c ∷ cs) h = ap suc (length-same b (start + 1) ls cs h.1)
 
 -- boards of PAL16 chips whose combinational units read no combinational net are rebuilt
 pub pal-rebuilt : (net : Net) (chips : List ChipCells) → IsPalBoard net chips → ReadsRegistered net chips → IsRebuilt net chips
@@ -298,5 +297,5 @@ pal-rebuilt net chips board reads =
       new_ranks = subst HasRanks is (pal_rank new, 3, ranked);
       alike = alike_built;
       same = same-boards net chips (built_net net chips) (built_cells net chips) (ports-same b news) alike_built;
-      as_many = length-same units 0 net.chips chips b board.pals;
+      as_many = length-same b 0 net.chips chips board.pals;
     }

@@ -1,6 +1,5 @@
 -- The units of a board of PAL16 chips, and those of the chips that are built for it one for one.
 use Rattle.std.proofs.Common.{ℕ, zero, suc, ◌≡◌, ◌+◌, ◌≤◌, Bool, true, false, not, ◌&&◌, ◌||◌, List, [], ◌∷◌, ◌++◌, map, Option, Some, None, refl, sym, ap, ◌∙◌, subst, eqb, eqb-true, arith}
-use Rattle.std.specs.Prelude.{option_and_then}
 use Rattle.std.specs.List.{filter, list_any, list_all, slice_get}
 use Rattle.std.specs.List.{AllByRecursion}
 use Rattle.std.proofs.lemmas.Option.{same_Some}
@@ -10,18 +9,20 @@ use Rattle.mig_base.specs.declared.cells.Cell.{Cell}
 use Rattle.mig_base.specs.declared.cells.ChipCells.{ChipCells}
 use Rattle.mig_base.specs.declared.nets.Net.{Net}
 use Rattle.mig_base.specs.declared.nets.ChipLine.{ChipLine}
-use Rattle.mig_base.specs.Accepted.{Among}
+use Rattle.mig_base.specs.Among.{Among}
 use Rattle.mig_base.specs.DeviceTables.{is_pal16, cell_pins, ordinary_pins, is_22}
 use Rattle.mig_base.specs.Cells.{is_among, pal_cell, pal_cells}
 use Rattle.mig_base.specs.WellFormed.{is_never}
 use Rattle.mig_base.specs.Boards.{At, ChipUnit, can_drive, driver_of, makes_unit, is_unit, in_cell, in_row, units_from, circuit_on}
-use Rattle.new_board.specs.NewChip.{NewChip, private_from, unit_on}
-use Rattle.new_board.specs.InputPins.{has_no_driver, pin_net}
-use Rattle.new_board.specs.NewFiles.{cell_driving, new_cell, new_cells, fitted}
-use Rattle.new_board.specs.OneForOne.{same_chip, same_chips_from, same_chips}
+use Rattle.new_board.specs.declared.types.PlacedUnit.{PlacedUnit}
+use Rattle.new_board.specs.NewChip.{OldBoard, NewChip, private_from, unit_on, has_no_driver}
+use Rattle.new_board.specs.InputPins.{pin_net}
+use Rattle.new_board.specs.NewFiles.{cell_of, new_cell, new_cells, fitted}
+use Rattle.new_board.specs.OneForOne.{old_rows, same_chip, same_chips_from, same_chips}
 use Rattle.new_board.proofs.Items.{map-twice, among-get, among-filter, among-map, among-unmap, among-left, among-right, any-among, all-pass}
-use Rattle.rebuilt_boards.proofs.Wiring.{LinesFit, among-pins}
-use Rattle.rebuilt_boards.proofs.RebuiltCircuit.{board_of, chip_at, chip-at, rebuilt_unit, rebuilt_units, rebuilt_net, UnitsFit}
+use Rattle.new_board.proofs.Wiring.{LinesFit, among-pins}
+use Rattle.rebuilt_boards.proofs.RebuiltCircuit.{board_of, chip_at, chip-at, rebuilt_unit, rebuilt_units, UnitsFit}
+use Rattle.new_board.proofs.NewWiring.{rebuilt_net}
 use Rattle.rebuilt_boards.proofs.Placing.{AreApart, IsUnitAt, placed-on, placed-from, unit-of, PinsApart, units-apart, made-apart, same-chip, units-made}
 use Rattle.rebuilt_boards.proofs.PalCells.{pal-pin, pal16-table}
 
@@ -125,22 +126,23 @@ among-of pins pin qs e a =
     subst (λ (q : ℕ). Among q pins) same found.1
 
 -- the new chip of a unit
-pub unit-chip : (net : Net) (chips : List ChipCells) (u : ChipUnit) (p : IsPalUnit net chips u) → slice_get (same_chips net chips) u.chip ≡ Some (same_chip (units_from 0 chips) u.chip p.line u.cells)
-unit-chip net chips u p = same-chip (units_from 0 chips) 0 u.chip u.chip net.chips chips p.line u.cells p.line_is p.cells_is (omega arith)
+pub unit-chip : (net : Net) (chips : List ChipCells) (u : ChipUnit) (p : IsPalUnit net chips u) → slice_get (same_chips net chips) u.chip ≡ Some (same_chip (board_of net (units_from 0 chips)) u.chip p.line u.cells)
+unit-chip net chips u p = same-chip (board_of net (units_from 0 chips)) 0 u.chip u.chip net.chips chips p.line u.cells p.line_is p.cells_is (omega arith)
 
-pub unit-chip_at : (net : Net) (chips : List ChipCells) (u : ChipUnit) (p : IsPalUnit net chips u) → chip_at (same_chips net chips) u.chip ≡ same_chip (units_from 0 chips) u.chip p.line u.cells
-unit-chip_at net chips u p = chip-at (same_chips net chips) u.chip (same_chip (units_from 0 chips) u.chip p.line u.cells) (unit-chip net chips u p)
+pub unit-chip_at : (net : Net) (chips : List ChipCells) (u : ChipUnit) (p : IsPalUnit net chips u) → chip_at (same_chips net chips) u.chip ≡ same_chip (board_of net (units_from 0 chips)) u.chip p.line u.cells
+unit-chip_at net chips u p = chip-at (same_chips net chips) u.chip (same_chip (board_of net (units_from 0 chips)) u.chip p.line u.cells) (unit-chip net chips u p)
 
 pub same-found : (net : Net) (chips : List ChipCells) (j : ℕ) (line : ChipLine) (cells : ChipCells) → slice_get net.chips j ≡ Some line → slice_get chips j ≡ Some cells →
-    slice_get (same_chips net chips) j ≡ Some (same_chip (units_from 0 chips) j line cells)
-same-found net chips j line cells line_is cells_is = same-chip (units_from 0 chips) 0 j j net.chips chips line cells line_is cells_is (omega arith)
+    slice_get (same_chips net chips) j ≡ Some (same_chip (board_of net (units_from 0 chips)) j line cells)
+same-found net chips j line cells line_is cells_is = same-chip (board_of net (units_from 0 chips)) 0 j j net.chips chips line cells line_is cells_is (omega arith)
 
 -- each unit keeps its pin
 pub unit-on : (net : Net) (chips : List ChipCells) (i : ℕ) (u : ChipUnit) → ArePals net.chips chips → slice_get (units_from 0 chips) i ≡ Some u →
-    unit_on (chip_at (same_chips net chips) u.chip).units u.cell.pin ≡ Some i
+    unit_on (chip_at (same_chips net chips) u.chip).units u.cell.pin ≡ Some (old_rows (circuit_on net (units_from 0 chips)) u.cell.pin i)
 unit-on net chips i u pals e =
     ap (λ (c : NewChip). unit_on c.units u.cell.pin) (unit-chip_at net chips u (pal-unit net chips u pals (among-get (units_from 0 chips) i u e)))
-    ∙ placed-on 0 i (units_from 0 chips) u (pal-apart net.chips chips pals) e ∙ ap (λ (n : ℕ). Some n) (omega arith)
+    ∙ placed-on (circuit_on net (units_from 0 chips)) 0 i (units_from 0 chips) u (pal-apart net.chips chips pals) e
+    ∙ ap (λ (n : ℕ). Some (old_rows (circuit_on net (units_from 0 chips)) u.cell.pin n)) (omega arith)
 
 -- a new chip is one of these
 pub record IsSameChip (net : Net) (chips : List ChipCells) (j : ℕ) (chip : NewChip) : Type 0 where
@@ -149,35 +151,35 @@ pub record IsSameChip (net : Net) (chips : List ChipCells) (j : ℕ) (chip : New
   pub line_is : slice_get net.chips j ≡ Some line
   pub cells_is : slice_get chips j ≡ Some cells
   pub pal : IsPalChip line cells
-  pub chip_is : chip ≡ same_chip (units_from 0 chips) j line cells
+  pub chip_is : chip ≡ same_chip (board_of net (units_from 0 chips)) j line cells
 
-same-back : (units : List ChipUnit) (start i : ℕ) (lines : List ChipLine) (chips : List ChipCells) (chip : NewChip) → slice_get (same_chips_from units start lines chips) i ≡ Some chip → ArePals lines chips →
-    (p : PalAt lines chips i) × (chip ≡ same_chip units (start + i) p.line p.cells)
-same-back units start i [] chips chip e h = cc
-same-back units start i (l ∷ ls) [] chip e h = cc
-same-back units start zero (l ∷ ls) (c ∷ cs) chip e h =
+same-back : (b : OldBoard) (start i : ℕ) (lines : List ChipLine) (chips : List ChipCells) (chip : NewChip) → slice_get (same_chips_from b start lines chips) i ≡ Some chip → ArePals lines chips →
+    (p : PalAt lines chips i) × (chip ≡ same_chip b (start + i) p.line p.cells)
+same-back b start i [] chips chip e h = cc
+same-back b start i (l ∷ ls) [] chip e h = cc
+same-back b start zero (l ∷ ls) (c ∷ cs) chip e h =
     let number : start ≡ start + 0 = omega arith in
-    (record { line = l; cells = c; line_is = refl; cells_is = refl; chip = h.0 }, sym (same_Some (same_chip units start l c) chip e) ∙ ap (λ (k : ℕ). same_chip units k l c) number)
-same-back units start (suc i) (l ∷ ls) (c ∷ cs) chip e h =
-    let r = same-back units (start + 1) i ls cs chip e h.1 in
+    (record { line = l; cells = c; line_is = refl; cells_is = refl; chip = h.0 }, sym (same_Some (same_chip b start l c) chip e) ∙ ap (λ (k : ℕ). same_chip b k l c) number)
+same-back b start (suc i) (l ∷ ls) (c ∷ cs) chip e h =
+    let r = same-back b (start + 1) i ls cs chip e h.1 in
     let p = r.0 in
     let number : start + 1 + i ≡ start + suc i = omega arith in
-    (record { line = p.line; cells = p.cells; line_is = p.line_is; cells_is = p.cells_is; chip = p.chip }, r.1 ∙ ap (λ (k : ℕ). same_chip units k p.line p.cells) number)
+    (record { line = p.line; cells = p.cells; line_is = p.line_is; cells_is = p.cells_is; chip = p.chip }, r.1 ∙ ap (λ (k : ℕ). same_chip b k p.line p.cells) number)
 
 pub new-same : (net : Net) (chips : List ChipCells) (j : ℕ) (chip : NewChip) → ArePals net.chips chips → slice_get (same_chips net chips) j ≡ Some chip → IsSameChip net chips j chip
 new-same net chips j chip pals e =
-    let r = same-back (units_from 0 chips) 0 j net.chips chips chip e pals in
+    let r = same-back (board_of net (units_from 0 chips)) 0 j net.chips chips chip e pals in
     let p = r.0 in
     let number : 0 + j ≡ j = omega arith in
-    record { line = p.line; cells = p.cells; line_is = p.line_is; cells_is = p.cells_is; pal = p.chip; chip_is = r.1 ∙ ap (λ (k : ℕ). same_chip (units_from 0 chips) k p.line p.cells) number }
+    record { line = p.line; cells = p.cells; line_is = p.line_is; cells_is = p.cells_is; pal = p.chip; chip_is = r.1 ∙ ap (λ (k : ℕ). same_chip (board_of net (units_from 0 chips)) k p.line p.cells) number }
 
-pub unit-from : (net : Net) (chips : List ChipCells) (j : ℕ) (chip : NewChip) (pin i : ℕ) → ArePals net.chips chips → slice_get (same_chips net chips) j ≡ Some chip → unit_on chip.units pin ≡ Some i →
-    IsUnitAt (units_from 0 chips) (j, pin) i
-unit-from net chips j chip pin i pals e on =
+pub unit-from : (net : Net) (chips : List ChipCells) (j : ℕ) (chip : NewChip) (pin : ℕ) (x : PlacedUnit) → ArePals net.chips chips → slice_get (same_chips net chips) j ≡ Some chip → unit_on chip.units pin ≡ Some x →
+    IsUnitAt (units_from 0 chips) (j, pin) x.unit
+unit-from net chips j chip pin x pals e on =
     let s = new-same net chips j chip pals e in
-    let r = placed-from j 0 i (units_from 0 chips) pin (ap (λ (c : NewChip). unit_on c.units pin) (sym s.chip_is) ∙ on) in
-    let number : i ≡ 0 + r.0 = r.1 in
-    let same : r.0 ≡ i = omega arith in
+    let r = placed-from (circuit_on net (units_from 0 chips)) j 0 (units_from 0 chips) pin x (ap (λ (c : NewChip). unit_on c.units pin) (sym s.chip_is) ∙ on) in
+    let number : x.unit ≡ 0 + r.0 = r.1 in
+    let same : r.0 ≡ x.unit = omega arith in
     subst (IsUnitAt (units_from 0 chips) (j, pin)) same r.2
 
 -- what stays to be shown of each form of boards
@@ -209,8 +211,8 @@ units-fit net chips d = record {
       let t = pal16-table p.line.kind p.chip.pal in
       subst (λ (k : Kind). Among u.cell.pin (ordinary_pins k)) (sym (ap (λ (c : NewChip). c.kind) (unit-chip_at net chips u p) ∙ t.gal))
       (among-of (ordinary_pins Gal16V8) u.cell.pin (cell_pins p.line.kind) t.cells_ordinary p.pin);
-  from = λ j chip pin i e on.
-      let r = unit-from net chips j chip pin i d.pals e on in
+  from = λ j chip pin x e on.
+      let r = unit-from net chips j chip pin x d.pals e on in
       (r.unit, r.found, r.place);
   enabled = d.enabled;
   undriven = d.undriven;
@@ -227,11 +229,11 @@ false-from false h = refl
 -- a pin is that of a unit on the new chip where it was on the old one
 cell-stays : (net : Net) (chips : List ChipCells) (j pin : ℕ) (line : ChipLine) (cells : ChipCells) → ArePals net.chips chips → UnitsStay net chips →
     slice_get net.chips j ≡ Some line → slice_get chips j ≡ Some cells → (p : IsPalChip line cells) → Among pin (cell_pins line.kind) →
-    makes_unit false (new_cell (board_of net (units_from 0 chips)) (same_chip (units_from 0 chips) j line cells) pin).form ≡ makes_unit false (pal_cell line.kind p.bits pin).form
+    makes_unit false (new_cell (board_of net (units_from 0 chips)) (same_chip (board_of net (units_from 0 chips)) j line cells) pin).form ≡ makes_unit false (pal_cell line.kind p.bits pin).form
 cell-stays net chips j pin line cells pals stay line_is cells_is p a = at (makes_unit false (pal_cell line.kind p.bits pin).form) refl
   where
-    found : slice_get (same_chips net chips) j ≡ Some (same_chip (units_from 0 chips) j line cells)
-    found = same-chip (units_from 0 chips) 0 j j net.chips chips line cells line_is cells_is (omega arith)
+    found : slice_get (same_chips net chips) j ≡ Some (same_chip (board_of net (units_from 0 chips)) j line cells)
+    found = same-chip (board_of net (units_from 0 chips)) 0 j j net.chips chips line cells line_is cells_is (omega arith)
 
     passes : is_unit cells (pal_cell line.kind p.bits pin) ≡ makes_unit false (pal_cell line.kind p.bits pin).form
     passes = unit-passes cells (pal_cell line.kind p.bits pin) (pal-not_22 line cells p)
@@ -239,30 +241,30 @@ cell-stays net chips j pin line cells pals stay line_is cells_is p a = at (makes
     among : Among (pal_cell line.kind p.bits pin) cells.cells
     among = subst (λ (c : ChipCells). Among (pal_cell line.kind p.bits pin) c.cells) (sym p.cells_are) (among-map (pal_cell line.kind p.bits) pin (cell_pins line.kind) a)
 
-    none : (o : Option ℕ) → unit_on (same_chip (units_from 0 chips) j line cells).units pin ≡ o → makes_unit false (pal_cell line.kind p.bits pin).form ≡ false → o ≡ None
+    none : (o : Option PlacedUnit) → unit_on (same_chip (board_of net (units_from 0 chips)) j line cells).units pin ≡ o → makes_unit false (pal_cell line.kind p.bits pin).form ≡ false → o ≡ None
     none None e idle_ = refl
-    none (Some i) e idle_ =
-        let r = unit-from net chips j (same_chip (units_from 0 chips) j line cells) pin i pals found e in
-        let q = pal-unit net chips r.unit pals (among-get (units_from 0 chips) i r.unit r.found) in
-        let chip : r.unit.chip ≡ j = ap (λ (x : At). x.0) r.place in
-        let its_pin : r.unit.cell.pin ≡ pin = ap (λ (x : At). x.1) r.place in
+    none (Some x) e idle_ =
+        let r = unit-from net chips j (same_chip (board_of net (units_from 0 chips)) j line cells) pin x pals found e in
+        let q = pal-unit net chips r.unit pals (among-get (units_from 0 chips) x.unit r.unit r.found) in
+        let chip : r.unit.chip ≡ j = ap (λ (q : At). q.0) r.place in
+        let its_pin : r.unit.cell.pin ≡ pin = ap (λ (q : At). q.1) r.place in
         let cells_same : r.unit.cells ≡ cells = same_Some r.unit.cells cells (sym q.cells_is ∙ ap (slice_get chips) chip ∙ cells_is) in
         let cell = among-unmap (pal_cell line.kind p.bits) r.unit.cell (cell_pins line.kind)
-        (subst (λ (c : ChipCells). Among r.unit.cell c.cells) (cells_same ∙ p.cells_are) (unit-of 0 chips r.unit (among-get (units_from 0 chips) i r.unit r.found)).cell) in
+        (subst (λ (c : ChipCells). Among r.unit.cell c.cells) (cells_same ∙ p.cells_are) (unit-of 0 chips r.unit (among-get (units_from 0 chips) x.unit r.unit r.found)).cell) in
         let cell_pin : cell.0 ≡ pin = sym (pal-pin line.kind p.bits cell.0) ∙ sym (ap (λ (c : Cell). c.pin) cell.2) ∙ its_pin in
         let yes : true ≡ false = sym q.passes ∙ ap (λ (c : Cell). makes_unit false c.form) (cell.2 ∙ ap (pal_cell line.kind p.bits) cell_pin) ∙ idle_ in
         cc
 
     at : (q : Bool) → makes_unit false (pal_cell line.kind p.bits pin).form ≡ q →
-        makes_unit false (new_cell (board_of net (units_from 0 chips)) (same_chip (units_from 0 chips) j line cells) pin).form ≡ q
+        makes_unit false (new_cell (board_of net (units_from 0 chips)) (same_chip (board_of net (units_from 0 chips)) j line cells) pin).form ≡ q
     at true e =
         let u = unit-among 0 j j chips cells (pal_cell line.kind p.bits pin) cells_is (omega arith) among (passes ∙ e) in
-        ap (λ (c : NewChip). makes_unit false (new_cell (board_of net (units_from 0 chips)) c pin).form) (sym (chip-at (same_chips net chips) j (same_chip (units_from 0 chips) j line cells) found))
+        ap (λ (c : NewChip). makes_unit false (new_cell (board_of net (units_from 0 chips)) c pin).form) (sym (chip-at (same_chips net chips) j (same_chip (board_of net (units_from 0 chips)) j line cells) found))
         ∙ ap (λ (k : ℕ). makes_unit false (new_cell (board_of net (units_from 0 chips)) (chip_at (same_chips net chips) j) k).form) (sym (pal-pin line.kind p.bits pin))
         ∙ stay.each (record { chip = j; cells = cells; cell = pal_cell line.kind p.bits pin }) u
     at false e =
-        ap (λ (o : Option ℕ). makes_unit false (cell_driving (board_of net (units_from 0 chips)) (same_chip (units_from 0 chips) j line cells) pin (option_and_then (slice_get (circuit_on net (units_from 0 chips)).units) o)).form)
-        (none (unit_on (same_chip (units_from 0 chips) j line cells).units pin) refl e)
+        ap (λ (o : Option PlacedUnit). makes_unit false (cell_of (board_of net (units_from 0 chips)) (same_chip (board_of net (units_from 0 chips)) j line cells) pin o).form)
+        (none (unit_on (same_chip (board_of net (units_from 0 chips)) j line cells).units pin) refl e)
 
 map-append : {T S : Type 0} (f : T → S) (xs ys : List T) → map f (xs ++ ys) ≡ map f xs ++ map f ys
 map-append f [] ys = refl
@@ -271,21 +273,21 @@ map-append {S = S} f (x ∷ xs) ys = ap (λ (rest : List S). f x ∷ rest) (map-
 chips-rebuilt : (net : Net) (all : List ChipCells) (start : ℕ) (lines : List ChipLine) (chips : List ChipCells) → ArePals net.chips all → UnitsStay net all → ArePals lines chips →
     ((i : ℕ) (line : ChipLine) → slice_get lines i ≡ Some line → slice_get net.chips (start + i) ≡ Some line) →
     ((i : ℕ) (cells : ChipCells) → slice_get chips i ≡ Some cells → slice_get all (start + i) ≡ Some cells) →
-    units_from start (map (λ f. f.cells) (map (fitted (board_of net (units_from 0 all))) (same_chips_from (units_from 0 all) start lines chips)))
+    units_from start (map (λ f. f.cells) (map (fitted (board_of net (units_from 0 all))) (same_chips_from (board_of net (units_from 0 all)) start lines chips)))
     ≡ map (rebuilt_unit (board_of net (units_from 0 all)) (same_chips net all)) (units_from start chips)
 chips-rebuilt net all start [] [] pals stay h line_at cells_at = refl
 chips-rebuilt net all start [] (c ∷ cs) pals stay h line_at cells_at = absurd h
 chips-rebuilt net all start (l ∷ ls) [] pals stay h line_at cells_at = absurd h
 chips-rebuilt net all start (l ∷ ls) (c ∷ cs) pals stay h line_at cells_at =
     let b = board_of net (units_from 0 all) in
-    let chip = same_chip (units_from 0 all) start l c in
+    let chip = same_chip (board_of net (units_from 0 all)) start l c in
     let p = h.0 in
     let here : start + 0 ≡ start = omega arith in
     let line_is : slice_get net.chips start ≡ Some l = ap (slice_get net.chips) (sym here) ∙ line_at 0 l refl in
     let cells_is : slice_get all start ≡ Some c = ap (slice_get all) (sym here) ∙ cells_at 0 c refl in
     let table = pal16-table l.kind p.pal in
     let pins : cell_pins chip.kind ≡ cell_pins l.kind = ap cell_pins table.gal ∙ table.cells in
-    let found : chip_at (same_chips net all) start ≡ chip = chip-at (same_chips net all) start chip (same-chip (units_from 0 all) 0 start start net.chips all l c line_is cells_is (omega arith)) in
+    let found : chip_at (same_chips net all) start ≡ chip = chip-at (same_chips net all) start chip (same-chip (board_of net (units_from 0 all)) 0 start start net.chips all l c line_is cells_is (omega arith)) in
     let not_22 : is_22 chip.kind ≡ false = ap is_22 table.gal in
     let first = units-made (cell_pins l.kind) (pal_cell l.kind p.bits) (new_cell b chip) (is_unit (new_cells b chip)) (is_unit c)
     (λ (cell : Cell). record { chip = start; cells = new_cells b chip; cell = cell })
@@ -297,8 +299,8 @@ chips-rebuilt net all start (l ∷ ls) (c ∷ cs) pals stay h line_at cells_at =
     ap (λ (k : ℕ). record { chip = start; cells = new_cells b chip; cell = new_cell b chip k }) (sym (pal-pin l.kind p.bits pin))
     ∙ ap (λ (x : NewChip). record { chip = start; cells = new_cells b x; cell = new_cell b x (pal_cell l.kind p.bits pin).pin }) (sym found)) in
     ap (λ (ps : List ℕ). map (λ (cell : Cell). record { chip = start; cells = new_cells b chip; cell = cell }) (filter (is_unit (new_cells b chip)) (map (new_cell b chip) ps))
-    ++ units_from (start + 1) (map (λ f. f.cells) (map (fitted b) (same_chips_from (units_from 0 all) (start + 1) ls cs)))) pins
-    ∙ ap (λ (xs : List ChipUnit). xs ++ units_from (start + 1) (map (λ f. f.cells) (map (fitted b) (same_chips_from (units_from 0 all) (start + 1) ls cs))))
+    ++ units_from (start + 1) (map (λ f. f.cells) (map (fitted b) (same_chips_from (board_of net (units_from 0 all)) (start + 1) ls cs)))) pins
+    ∙ ap (λ (xs : List ChipUnit). xs ++ units_from (start + 1) (map (λ f. f.cells) (map (fitted b) (same_chips_from (board_of net (units_from 0 all)) (start + 1) ls cs))))
     (first ∙ ap (λ (d : ChipCells). map (λ (cell : Cell). rebuilt_unit b (same_chips net all) (record { chip = start; cells = c; cell = cell })) (filter (is_unit c) d.cells)) (sym p.cells_are)
     ∙ sym (map-twice (rebuilt_unit b (same_chips net all)) (λ (cell : Cell). record { chip = start; cells = c; cell = cell }) (filter (is_unit c) c.cells)))
     ∙ ap (λ (rest : List ChipUnit). map (rebuilt_unit b (same_chips net all)) (map (λ (cell : Cell). record { chip = start; cells = c; cell = cell }) (filter (is_unit c) c.cells)) ++ rest)

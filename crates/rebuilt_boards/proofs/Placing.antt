@@ -6,11 +6,14 @@ use Rattle.std.proofs.lemmas.Option.{same_Some}
 use Rattle.mig_base.specs.declared.cells.Cell.{Cell}
 use Rattle.mig_base.specs.declared.cells.ChipCells.{ChipCells}
 use Rattle.mig_base.specs.declared.nets.ChipLine.{ChipLine}
-use Rattle.mig_base.specs.Accepted.{Among}
+use Rattle.mig_base.specs.Among.{Among}
 use Rattle.mig_base.specs.Boards.{At, ChipUnit, at_of, is_unit, units_from}
 use Rattle.mig_base.specs.WrittenBoard.{are_distinct}
-use Rattle.new_board.specs.NewChip.{unit_on}
-use Rattle.new_board.specs.OneForOne.{placed_from, same_chip, same_chips_from}
+use Rattle.mig_base.specs.declared.circuit.Circuit.{Circuit}
+use Rattle.new_board.specs.declared.types.PlacedUnit.{PlacedUnit}
+use Rattle.new_board.specs.NewChip.{OldBoard, unit_on}
+use Rattle.new_board.specs.OneForOne.{old_rows, placed_from, same_chip, same_chips_from}
+use Rattle.rebuilt_boards.proofs.OldRows.{old-pin, old-unit}
 use Rattle.new_board.proofs.Items.{all-filter, among-unfilter, among-unmap, among-append, of-all, among-any}
 
 -- no two units have the same pin
@@ -26,12 +29,12 @@ all-get P [] i x h e = cc
 all-get P (y ∷ ys) zero x h e = subst P (same_Some y x e) h.0
 all-get P (y ∷ ys) (suc i) x h e = all-get P ys i x h.1 e
 
-placed-first : (j s : ℕ) (x : ChipUnit) (rest : List (ℕ × ℕ)) (pin : ℕ) →
-    unit_on (cond (eqb x.chip j) ((x.cell.pin, s) ∷ []) [] ++ rest) pin ≡ cond (eqb x.chip j && eqb x.cell.pin pin) (Some s) (unit_on rest pin)
-placed-first j s x rest pin = at (eqb x.chip j)
+placed-first : (c : Circuit) (j s : ℕ) (x : ChipUnit) (rest : List PlacedUnit) (pin : ℕ) →
+    unit_on (cond (eqb x.chip j) (old_rows c x.cell.pin s ∷ []) [] ++ rest) pin ≡ cond (eqb x.chip j && eqb x.cell.pin pin) (Some (old_rows c x.cell.pin s)) (unit_on rest pin)
+placed-first c j s x rest pin = at (eqb x.chip j)
   where
-    at : (q : Bool) → unit_on (cond q ((x.cell.pin, s) ∷ []) [] ++ rest) pin ≡ cond (q && eqb x.cell.pin pin) (Some s) (unit_on rest pin)
-    at true = refl
+    at : (q : Bool) → unit_on (cond q (old_rows c x.cell.pin s ∷ []) [] ++ rest) pin ≡ cond (q && eqb x.cell.pin pin) (Some (old_rows c x.cell.pin s)) (unit_on rest pin)
+    at true = ap (λ (p : ℕ). cond (eqb p pin) (Some (old_rows c x.cell.pin s)) (unit_on rest pin)) (old-pin c x.cell.pin s)
     at false = refl
 
 both-tests : (n m i k : ℕ) → n ≡ m → i ≡ k → (eqb n m && eqb i k) ≡ true
@@ -41,26 +44,29 @@ not-both : (q : Bool) → (q ≡ true → ⊥) → q ≡ false
 not-both true h = absurd (h refl)
 not-both false h = refl
 
--- a unit is found on its pin, by its number
-pub placed-on : (s i : ℕ) (us : List ChipUnit) (u : ChipUnit) → AreApart us → slice_get us i ≡ Some u → unit_on (placed_from u.chip s us) u.cell.pin ≡ Some (s + i)
-placed-on s i [] u h e = cc
-placed-on s zero (x ∷ xs) u h e =
+-- a unit is found on its pin, with its old rows
+pub placed-on : (c : Circuit) (s i : ℕ) (us : List ChipUnit) (u : ChipUnit) → AreApart us → slice_get us i ≡ Some u →
+    unit_on (placed_from c u.chip s us) u.cell.pin ≡ Some (old_rows c u.cell.pin (s + i))
+placed-on c s i [] u h e = cc
+placed-on c s zero (x ∷ xs) u h e =
     let same : x ≡ u = same_Some x u e in
-    placed-first u.chip s x (placed_from u.chip (s + 1) xs) u.cell.pin
-    ∙ ap (λ (q : Bool). cond q (Some s) (unit_on (placed_from u.chip (s + 1) xs) u.cell.pin))
+    let number : s ≡ s + 0 = omega arith in
+    placed-first c u.chip s x (placed_from c u.chip (s + 1) xs) u.cell.pin
+    ∙ ap (λ (q : Bool). cond q (Some (old_rows c x.cell.pin s)) (unit_on (placed_from c u.chip (s + 1) xs) u.cell.pin))
     (both-tests x.chip u.chip x.cell.pin u.cell.pin (ap (λ (v : ChipUnit). v.chip) same) (ap (λ (v : ChipUnit). v.cell.pin) same))
-    ∙ ap (λ (n : ℕ). Some n) (omega arith)
-placed-on s (suc i) (x ∷ xs) u h e =
+    ∙ ap (λ (v : ChipUnit). Some (old_rows c v.cell.pin s)) same ∙ ap (λ (n : ℕ). Some (old_rows c u.cell.pin n)) number
+placed-on c s (suc i) (x ∷ xs) u h e =
     let apart : at_of u ≡ at_of x → ⊥ = all-get (IsElsewhere (at_of x)) xs i u h.0 e in
     let test = eqb x.chip u.chip && eqb x.cell.pin u.cell.pin in
-    placed-first u.chip s x (placed_from u.chip (s + 1) xs) u.cell.pin
-    ∙ ap (λ (q : Bool). cond q (Some s) (unit_on (placed_from u.chip (s + 1) xs) u.cell.pin))
+    let number : s + 1 + i ≡ s + suc i = omega arith in
+    placed-first c u.chip s x (placed_from c u.chip (s + 1) xs) u.cell.pin
+    ∙ ap (λ (q : Bool). cond q (Some (old_rows c x.cell.pin s)) (unit_on (placed_from c u.chip (s + 1) xs) u.cell.pin))
     (not-both test (λ both.
     let parts = and_parts (eqb x.chip u.chip) (eqb x.cell.pin u.cell.pin) both in
     let chips : x.chip ≡ u.chip = eqb-true x.chip u.chip parts.0 in
     let pins : x.cell.pin ≡ u.cell.pin = eqb-true x.cell.pin u.cell.pin parts.1 in
     apart (λ k. (sym chips k, sym pins k))))
-    ∙ placed-on (s + 1) i xs u h.1 e ∙ ap (λ (n : ℕ). Some n) (omega arith)
+    ∙ placed-on c (s + 1) i xs u h.1 e ∙ ap (λ (n : ℕ). Some (old_rows c u.cell.pin n)) number
 
 -- a unit of a list, by its number and its pin
 pub record IsUnitAt (us : List ChipUnit) (q : At) (i : ℕ) : Type 0 where
@@ -68,22 +74,22 @@ pub record IsUnitAt (us : List ChipUnit) (q : At) (i : ℕ) : Type 0 where
   pub found : slice_get us i ≡ Some unit
   pub place : at_of unit ≡ q
 
-pub placed-from : (j s k : ℕ) (us : List ChipUnit) (pin : ℕ) → unit_on (placed_from j s us) pin ≡ Some k → (i : ℕ) × (k ≡ s + i) × IsUnitAt us (j, pin) i
-placed-from j s k [] pin e = cc
-placed-from j s k (x ∷ xs) pin e =
-    at (eqb x.chip j && eqb x.cell.pin pin) refl (sym (placed-first j s x (placed_from j (s + 1) xs) pin) ∙ e) (placed-from j (s + 1) k xs pin)
+pub placed-from : (c : Circuit) (j s : ℕ) (us : List ChipUnit) (pin : ℕ) (p : PlacedUnit) → unit_on (placed_from c j s us) pin ≡ Some p → (i : ℕ) × (p.unit ≡ s + i) × IsUnitAt us (j, pin) i
+placed-from c j s [] pin p e = cc
+placed-from c j s (x ∷ xs) pin p e =
+    at (eqb x.chip j && eqb x.cell.pin pin) refl (sym (placed-first c j s x (placed_from c j (s + 1) xs) pin) ∙ e) (placed-from c j (s + 1) xs pin p)
   where
-    at : (q : Bool) → (eqb x.chip j && eqb x.cell.pin pin) ≡ q → cond q (Some s) (unit_on (placed_from j (s + 1) xs) pin) ≡ Some k →
-        (unit_on (placed_from j (s + 1) xs) pin ≡ Some k → (i : ℕ) × (k ≡ s + 1 + i) × IsUnitAt xs (j, pin) i) → (i : ℕ) × (k ≡ s + i) × IsUnitAt (x ∷ xs) (j, pin) i
+    at : (q : Bool) → (eqb x.chip j && eqb x.cell.pin pin) ≡ q → cond q (Some (old_rows c x.cell.pin s)) (unit_on (placed_from c j (s + 1) xs) pin) ≡ Some p →
+        (unit_on (placed_from c j (s + 1) xs) pin ≡ Some p → (i : ℕ) × (p.unit ≡ s + 1 + i) × IsUnitAt xs (j, pin) i) → (i : ℕ) × (p.unit ≡ s + i) × IsUnitAt (x ∷ xs) (j, pin) i
     at true is e rest =
         let parts = and_parts (eqb x.chip j) (eqb x.cell.pin pin) is in
         let chips : x.chip ≡ j = eqb-true x.chip j parts.0 in
         let pins : x.cell.pin ≡ pin = eqb-true x.cell.pin pin parts.1 in
-        let first : s ≡ k = same_Some s k e in
+        let first : p.unit ≡ s = ap (λ (y : PlacedUnit). y.unit) (sym (same_Some (old_rows c x.cell.pin s) p e)) ∙ old-unit c x.cell.pin s in
         (0, omega arith, record { unit = x; found = refl; place = λ t. (chips t, pins t) })
     at false is e rest =
         let r = rest e in
-        let later : k ≡ s + 1 + r.0 = r.1 in
+        let later : p.unit ≡ s + 1 + r.0 = r.1 in
         (suc r.0, omega arith, record { unit = r.2.unit; found = r.2.found; place = r.2.place })
 
 -- a unit is a cell of its chip
@@ -171,16 +177,16 @@ made-apart f (p ∷ ps) is e =
 
 -- the new chips
 
-pub same-chip : (units : List ChipUnit) (start i j : ℕ) (lines : List ChipLine) (chips : List ChipCells) (line : ChipLine) (cells : ChipCells) →
-    slice_get lines i ≡ Some line → slice_get chips i ≡ Some cells → j ≡ start + i → slice_get (same_chips_from units start lines chips) i ≡ Some (same_chip units j line cells)
-same-chip units start i j [] chips line cells e f at = cc
-same-chip units start i j (l ∷ ls) [] line cells e f at = cc
-same-chip units start zero j (l ∷ ls) (c ∷ cs) line cells e f at =
+pub same-chip : (b : OldBoard) (start i j : ℕ) (lines : List ChipLine) (chips : List ChipCells) (line : ChipLine) (cells : ChipCells) →
+    slice_get lines i ≡ Some line → slice_get chips i ≡ Some cells → j ≡ start + i → slice_get (same_chips_from b start lines chips) i ≡ Some (same_chip b j line cells)
+same-chip b start i j [] chips line cells e f at = cc
+same-chip b start i j (l ∷ ls) [] line cells e f at = cc
+same-chip b start zero j (l ∷ ls) (c ∷ cs) line cells e f at =
     let lines : l ≡ line = same_Some l line e in
     let chips : c ≡ cells = same_Some c cells f in
     let number : start ≡ j = omega arith in
-    λ k. Some (same_chip units (number k) (lines k) (chips k))
-same-chip units start (suc i) j (l ∷ ls) (c ∷ cs) line cells e f at = same-chip units (start + 1) i j ls cs line cells e f (omega arith)
+    λ k. Some (same_chip b (number k) (lines k) (chips k))
+same-chip b start (suc i) j (l ∷ ls) (c ∷ cs) line cells e f at = same-chip b (start + 1) i j ls cs line cells e f (omega arith)
 
 -- units that are made of the same pins
 pub units-made : {S : Type 0} (pins : List ℕ) (f g : ℕ → Cell) (test other : Cell → Bool) (make mirror : Cell → S) →

@@ -10,26 +10,22 @@ use Rattle.mig_base.specs.declared.kinds.Mode.TheVariants.{Complex}
 use Rattle.mig_base.specs.declared.nets.Net.{Net}
 use Rattle.mig_base.specs.declared.nets.Pull.{Pull}
 use Rattle.mig_base.specs.declared.nets.Pull.TheVariants as pull
-use Rattle.mig_base.specs.declared.circuit.Gate.{Gate}
-use Rattle.mig_base.specs.declared.circuit.Gate.TheVariants.{Never, Product}
-use Rattle.mig_base.specs.declared.circuit.Gives.{Gives}
-use Rattle.mig_base.specs.declared.circuit.Gives.TheVariants.{Sum, Visible}
-use Rattle.mig_base.specs.declared.circuit.Literal.{Literal}
-use Rattle.mig_base.specs.declared.circuit.Register.{Register}
-use Rattle.mig_base.specs.declared.circuit.Driver.{Driver}
 use Rattle.mig_base.specs.declared.circuit.Wire.{Wire}
 use Rattle.mig_base.specs.declared.circuit.NetKind.{NetKind}
 use Rattle.mig_base.specs.declared.circuit.NetKind.TheVariants.{Inner}
 use Rattle.mig_base.specs.declared.circuit.Circuit.{Circuit}
-use Rattle.mig_base.specs.Accepted.{Among}
+use Rattle.mig_base.specs.Among.{Among}
 use Rattle.mig_base.specs.DeviceTables.{ordinary_pins}
-use Rattle.mig_base.specs.Structure.{variable_gate}
 use Rattle.mig_base.specs.Boards.{At, place_of, line_at, pins_from, privates, net_of, ChipUnit, at_of, places_from, kinds_of, can_drive, driver_of, drives, circuit_on}
-use Rattle.new_board.specs.NewChip.{OldBoard, NewChip, private_from, unit_on, unit_net, unit_net_of, or_option}
-use Rattle.new_board.specs.InputPins.{has_no_driver, pin_net}
-use Rattle.new_board.specs.NewFiles.{new_comb, new_reg, cell_giving, cell_driving, new_cell, new_cells, fitted, wire_at, new_wires, kept_numbers, new_number, new_chip_line, new_net}
+use Rattle.new_board.specs.NewChip.{OldBoard, NewChip, private_from, unit_on, unit_net, unit_net_of, or_option, has_no_driver}
+use Rattle.new_board.specs.InputPins.{pin_net}
+use Rattle.new_board.specs.NewFiles.{new_cell, new_cells, fitted, wire_at, new_wires, new_number, new_chip_line}
+use Rattle.new_board.specs.declared.types.PlacedUnit.{PlacedUnit}
+use Rattle.new_board.specs.OneForOne.{old_rows}
+use Rattle.rebuilt_boards.proofs.OldRows.{old-unit}
+use Rattle.new_board.proofs.NewWiring.{rebuilt_net, kept_of, cell-pin, NumbersFit}
 use Rattle.new_board.proofs.Items.{among-get, get-among, among-unmap}
-use Rattle.rebuilt_boards.proofs.Wiring.{wire_of, wires-get, inner_kind, kinds-private, net-line, net-private, among-privates, LinesFit, private-none, private-own, wire_on, new-line, wire-some, wire-none, among-pins, place-get, place-apart, places-same, places-none}
+use Rattle.new_board.proofs.Wiring.{wire_of, wires-get, inner_kind, kinds-private, net-line, net-private, among-privates, LinesFit, private-none, private-own, wire_on, new-line, wire-some, wire-none, among-pins, place-get, place-apart, places-same, places-none}
 
 -- the board of a wiring and units
 abbrev pub board_of : Net → List ChipUnit → OldBoard
@@ -52,61 +48,22 @@ rebuilt_unit b news u = record { chip = u.chip; cells = new_cells b (chip_at new
 abbrev pub rebuilt_units : OldBoard → List NewChip → List ChipUnit
 rebuilt_units b news = map (rebuilt_unit b news) b.units
 
-abbrev pub rebuilt_net : OldBoard → List NewChip → Net
-rebuilt_net b news = new_net b.net (map (fitted b) news)
-
 abbrev pub rebuilt_circuit : OldBoard → List NewChip → Circuit
 rebuilt_circuit b news = circuit_on (rebuilt_net b news) (rebuilt_units b news)
 
-abbrev pub kept_of : OldBoard → List NewChip → List ℕ
-kept_of b news = kept_numbers b.net (map (fitted b) news)
-
--- each cell is made for its pin
-comb-pin : (b : OldBoard) (chip : NewChip) (pin : ℕ) (low : Bool) (gate : Gate) (terms : List (List Literal)) → (new_comb b chip pin low gate terms).pin ≡ pin
-comb-pin b chip pin low Never terms = refl
-comb-pin b chip pin low (Product lits) terms = refl
-
-reg-pin : (b : OldBoard) (chip : NewChip) (pin : ℕ) (low : Bool) (gate : Gate) (r : Option Register) → (new_reg b chip pin low gate r).pin ≡ pin
-reg-pin b chip pin low gate None = refl
-reg-pin b chip pin low gate (Some r) = refl
-
-giving-pin : (b : OldBoard) (chip : NewChip) (pin : ℕ) (low : Bool) (gate : Gate) (g : Gives) → (cell_giving b chip pin low gate g).pin ≡ pin
-giving-pin b chip pin low gate (Sum terms) = comb-pin b chip pin low gate terms
-giving-pin b chip pin low gate (Visible k) = reg-pin b chip pin low gate (slice_get b.circuit.registers k)
-
-driving-pin : (b : OldBoard) (chip : NewChip) (pin : ℕ) (d : Option Driver) → (cell_driving b chip pin d).pin ≡ pin
-driving-pin b chip pin None = refl
-driving-pin b chip pin (Some d) = giving-pin b chip pin d.low (variable_gate b.circuit d.enable) d.gives
-
-pub cell-pin : (b : OldBoard) (chip : NewChip) (pin : ℕ) → (new_cell b chip pin).pin ≡ pin
-cell-pin b chip pin = driving-pin b chip pin (option_and_then (slice_get b.circuit.units) (unit_on chip.units pin))
-
 pub rebuilt-at : (b : OldBoard) (news : List NewChip) (u : ChipUnit) → at_of (rebuilt_unit b news u) ≡ at_of u
 rebuilt-at b news u = ap (λ (p : ℕ). (u.chip, p)) (cell-pin b (chip_at news u.chip) u.cell.pin)
-
--- a net of the old board on which a pin of the new board stands, by its number there
-pub record IsNumbered (b : OldBoard) (news : List NewChip) (old : ℕ → ℕ) (n : ℕ) : Type 0 where
-  pub below : new_number (kept_of b news) n < private_from (rebuilt_net b news)
-  pub back : old (new_number (kept_of b news) n) ≡ n
-
--- the numbers of the constants and the named nets on the new board and on the old one
-pub record NumbersFit (b : OldBoard) (news : List NewChip) (old : ℕ → ℕ) : Type 0 where
-  pub wired : (j : ℕ) (chip : NewChip) (pin n : ℕ) → slice_get news j ≡ Some chip → Among pin (ordinary_pins chip.kind) → pin_net b chip pin ≡ Some n →
-      n < private_from b.net → IsNumbered b news old n
-  pub within : (n : ℕ) → n < private_from (rebuilt_net b news) → old n < private_from b.net
-  pub kinds : (n : ℕ) → n < private_from (rebuilt_net b news) → slice_get (kinds_of (rebuilt_net b news)) n ≡ slice_get (kinds_of b.net) (old n)
-  pub constants : (n : ℕ) → n < 2 → old n ≡ n
-  pub apart : (n m : ℕ) → n < private_from (rebuilt_net b news) → m < private_from (rebuilt_net b news) → old n ≡ old m → n ≡ m
 
 -- each unit has its place on a new chip, and drives where it drove
 pub record UnitsFit (b : OldBoard) (news : List NewChip) : Type 0 where
   pub lines : LinesFit b.net
   pub circuit_is : b.circuit ≡ circuit_on b.net b.units
   pub chip : (u : ChipUnit) → Among u b.units → slice_get news u.chip ≡ Some (chip_at news u.chip)
-  pub on : (i : ℕ) (u : ChipUnit) → slice_get b.units i ≡ Some u → unit_on (chip_at news u.chip).units u.cell.pin ≡ Some i
+  pub on : (i : ℕ) (u : ChipUnit) → slice_get b.units i ≡ Some u → unit_on (chip_at news u.chip).units u.cell.pin ≡ Some (old_rows b.circuit u.cell.pin i)
   pub old_pin : (u : ChipUnit) → Among u b.units → Among (at_of u) (pins_from 0 b.net.chips)
   pub new_pin : (u : ChipUnit) → Among u b.units → Among u.cell.pin (ordinary_pins (chip_at news u.chip).kind)
-  pub from : (j : ℕ) (chip : NewChip) (pin i : ℕ) → slice_get news j ≡ Some chip → unit_on chip.units pin ≡ Some i → (u : ChipUnit) × (slice_get b.units i ≡ Some u) × (at_of u ≡ (j, pin))
+  pub from : (j : ℕ) (chip : NewChip) (pin : ℕ) (x : PlacedUnit) → slice_get news j ≡ Some chip → unit_on chip.units pin ≡ Some x →
+      (u : ChipUnit) × (slice_get b.units x.unit ≡ Some u) × (at_of u ≡ (j, pin))
   pub enabled : (u : ChipUnit) → Among u b.units →
       can_drive (driver_of (rebuilt_net b news) (rebuilt_units b news) (rebuilt_unit b news u)).enable ≡ can_drive (driver_of b.net b.units u).enable
   -- a private net on which a pin without unit stands has no driver
@@ -131,7 +88,7 @@ unit-pin b news i u fit e =
       chip = chip;
       chip_is = fit.chip u a;
       ordinary = fit.new_pin u a;
-      net = or-first _ _ (net_of b.net (at_of u)) (or-first _ _ (net_of b.net (at_of u)) (ap (option_and_then (unit_net b)) (fit.on i u e) ∙ ap (unit_net_of b) e));
+      net = or-first _ _ (net_of b.net (at_of u)) (or-first _ _ (net_of b.net (at_of u)) (ap (option_and_then (λ (x : PlacedUnit). unit_net b x.unit)) (fit.on i u e) ∙ ap (unit_net b) (old-unit b.circuit u.cell.pin i) ∙ ap (unit_net_of b) e));
     }
 
 fitted-get : (b : OldBoard) (news : List NewChip) (j : ℕ) (chip : NewChip) → slice_get news j ≡ Some chip → slice_get (map (fitted b) news) j ≡ Some (fitted b chip)
@@ -291,17 +248,17 @@ private-unit b news old q n u numbers fit p high a e = at (cases_lt m (private_f
         place-apart (at_of u) q (privates (rebuilt_net b news)) (pin-private b news (at_of u) m pin above) (pin-private b news q n p high) (omega arith)
 
 -- the drivers of the private net of a pin with a unit
-unit-private : (b : OldBoard) (news : List NewChip) (q : At) (n i : ℕ) (fit : UnitsFit b news) (p : IsPin b news q n) → unit_on p.chip.units q.1 ≡ Some i → (n ≡ net_of b.net q) × Among q (pins_from 0 b.net.chips)
-unit-private b news q n i fit p e =
-    let u = fit.from q.0 p.chip q.1 i p.chip_is e in
-    let pin : IsPin b news q (net_of b.net q) = subst (λ (r : At). IsPin b news r (net_of b.net r)) u.2 (unit-pin b news i u.0 fit u.1) in
-    (pin-unique b news q n (net_of b.net q) p pin, subst (λ (r : At). Among r (pins_from 0 b.net.chips)) u.2 (fit.old_pin u.0 (among-get b.units i u.0 u.1)))
+unit-private : (b : OldBoard) (news : List NewChip) (q : At) (n : ℕ) (x : PlacedUnit) (fit : UnitsFit b news) (p : IsPin b news q n) → unit_on p.chip.units q.1 ≡ Some x → (n ≡ net_of b.net q) × Among q (pins_from 0 b.net.chips)
+unit-private b news q n x fit p e =
+    let u = fit.from q.0 p.chip q.1 x p.chip_is e in
+    let pin : IsPin b news q (net_of b.net q) = subst (λ (r : At). IsPin b news r (net_of b.net r)) u.2 (unit-pin b news x.unit u.0 fit u.1) in
+    (pin-unique b news q n (net_of b.net q) p pin, subst (λ (r : At). Among r (pins_from 0 b.net.chips)) u.2 (fit.old_pin u.0 (among-get b.units x.unit u.0 u.1)))
 
 -- its drivers are those of its old net
-private-drivers : (b : OldBoard) (news : List NewChip) (old : ℕ → ℕ) (q : At) (n i : ℕ) → NumbersFit b news old → UnitsFit b news → (p : IsPin b news q n) → private_from b.net ≤ n →
-    unit_on p.chip.units q.1 ≡ Some i →
+private-drivers : (b : OldBoard) (news : List NewChip) (old : ℕ → ℕ) (q : At) (n : ℕ) (x : PlacedUnit) → NumbersFit b news old → UnitsFit b news → (p : IsPin b news q n) → private_from b.net ≤ n →
+    unit_on p.chip.units q.1 ≡ Some x →
     places_from (drives (rebuilt_net b news) (rebuilt_units b news) (net_of (rebuilt_net b news) q)) 0 (rebuilt_units b news) ≡ places_from (drives b.net b.units n) 0 b.units
-private-drivers b news old q n i numbers fit p high e =
+private-drivers b news old q n x numbers fit p high e =
     places-same (drives (rebuilt_net b news) (rebuilt_units b news) (net_of (rebuilt_net b news) q)) (drives b.net b.units n) (rebuilt_unit b news) 0 b.units
     (λ u a. rebuilt-drives b news (net_of (rebuilt_net b news) q) n u fit a
     (eqb-same (net_of (rebuilt_net b news) (at_of u)) (net_of (rebuilt_net b news) q) (net_of b.net (at_of u)) n
@@ -309,7 +266,7 @@ private-drivers b news old q n i numbers fit p high e =
     (λ same. ap (net_of (rebuilt_net b news)) (private-own b.net q (at_of u) fit.lines own.1 (fit.old_pin u a) (subst (λ (k : ℕ). private_from b.net ≤ k) own.0 high) (same ∙ own.0)))))
   where
     own : (n ≡ net_of b.net q) × Among q (pins_from 0 b.net.chips)
-    own = unit-private b news q n i fit p e
+    own = unit-private b news q n x fit p e
 
 private-undriven : (b : OldBoard) (news : List NewChip) (old : ℕ → ℕ) (q : At) (n : ℕ) → NumbersFit b news old → UnitsFit b news → (p : IsPin b news q n) → private_from b.net ≤ n →
     unit_on p.chip.units q.1 ≡ None →
@@ -327,9 +284,9 @@ private-undriven b news old q n numbers fit p high none =
     elsewhere u a same =
         let i = get-among u b.units a in
         let chips : chip_at news u.chip ≡ p.chip = ap (λ (r : At). chip_at news r.0) same ∙ chip-at news q.0 p.chip p.chip_is in
-        let found : unit_on p.chip.units q.1 ≡ Some i.0 = ap (λ (c : NewChip). unit_on c.units q.1) (sym chips) ∙ ap (λ (r : At). unit_on (chip_at news u.chip).units r.1) (sym same) ∙ fit.on i.0 u i.1 in
-        let no : None ≡ Some i.0 = sym none ∙ found in
-        none-some i.0 no
+        let found : unit_on p.chip.units q.1 ≡ Some (old_rows b.circuit u.cell.pin i.0) = ap (λ (c : NewChip). unit_on c.units q.1) (sym chips) ∙ ap (λ (r : At). unit_on (chip_at news u.chip).units r.1) (sym same) ∙ fit.on i.0 u i.1 in
+        let no : None ≡ Some (old_rows b.circuit u.cell.pin i.0) = sym none ∙ found in
+        none-some (old_rows b.circuit u.cell.pin i.0) no
 
 -- a private net of the old board
 pub old-private_wire : (net : Net) (units : List ChipUnit) (n : ℕ) (w : Wire) → private_from net ≤ n → slice_get (circuit_on net units).nets n ≡ Some w →
@@ -370,19 +327,19 @@ pin-wire b news old q n numbers fit p = at (cases_lt n (private_from b.net)) (un
     old_circuit : slice_get (circuit_on b.net b.units).nets n ≡ slice_get b.circuit.nets n
     old_circuit = ap (λ (c : Circuit). slice_get c.nets n) (sym fit.circuit_is)
 
-    at : (n < private_from b.net) ⊎ (private_from b.net ≤ n) → (o : Option ℕ) → unit_on p.chip.units q.1 ≡ o →
+    at : (n < private_from b.net) ⊎ (private_from b.net ≤ n) → (o : Option PlacedUnit) → unit_on p.chip.units q.1 ≡ o →
         slice_get (rebuilt_circuit b news).nets (net_of (rebuilt_net b news) q) ≡ slice_get b.circuit.nets n
     at (inl low) o e =
         let numbered = numbers.wired q.0 p.chip q.1 n p.chip_is p.ordinary p.net low in
         ap (slice_get (rebuilt_circuit b news).nets) (named-net b news q n p low)
         ∙ named-wire b news old (new_number (kept_of b news) n) numbers fit numbered.below ∙ ap (slice_get b.circuit.nets) numbered.back
-    at (inr high) (Some i) e =
-        let own = unit-private b news q n i fit p e in
+    at (inr high) (Some x) e =
+        let own = unit-private b news q n x fit p e in
         let place = place_of q (privates b.net) in
         let high_own : private_from b.net ≤ net_of b.net q = subst (λ (k : ℕ). private_from b.net ≤ k) own.0 high in
         let none : line_at b.net.pins q ≡ None = private-none b.net q fit.lines high_own in
         new-private_wire b news q n p high
-        ∙ ap (λ (ds : List ℕ). Some (record { kind = Inner; pull = pull.Free; drivers = ds })) (private-drivers b news old q n i numbers fit p high e)
+        ∙ ap (λ (ds : List ℕ). Some (record { kind = Inner; pull = pull.Free; drivers = ds })) (private-drivers b news old q n x numbers fit p high e)
         ∙ ap (option_map (wire_of b.net b.units n)) (sym (kinds-private b.net place n (own.0 ∙ net-private b.net q none)
         ∙ ap (option_map inner_kind) (place-get q (privates b.net) (among-privates b.net q own.1 none))))
         ∙ sym (old-wire b.net b.units n) ∙ old_circuit

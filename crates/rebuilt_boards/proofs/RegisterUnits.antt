@@ -3,22 +3,24 @@ use Rattle.std.proofs.Common.{ℕ, suc, ◌≡◌, ◌+◌, Bool, true, false, c
 use Rattle.std.specs.Prelude.{option_and_then}
 use Rattle.std.specs.List.{filter, slice_get}
 use Rattle.std.specs.Option.{option_map}
-use Rattle.std.proofs.lemmas.Option.{same_Some, slice_get-map}
+use Rattle.std.proofs.lemmas.Option.{slice_get-map}
 use Rattle.mig_base.specs.declared.cells.Cell.{Cell}
 use Rattle.mig_base.specs.declared.cells.ChipCells.{ChipCells}
 use Rattle.mig_base.specs.declared.nets.Net.{Net}
 use Rattle.mig_base.specs.declared.circuit.Gate.{Gate}
 use Rattle.mig_base.specs.declared.circuit.Gives.TheVariants.{Sum, Visible}
-use Rattle.mig_base.specs.Accepted.{Among}
+use Rattle.mig_base.specs.Among.{Among}
 use Rattle.mig_base.specs.DeviceTables.{pal_registers}
 use Rattle.mig_base.specs.Cells.{is_among}
 use Rattle.mig_base.specs.WellFormed.{is_reg}
 use Rattle.mig_base.specs.Boards.{At, ChipUnit, at_of, place_of, net_of, is_registered, registers_of, literals_of, enable_on, low_pin, makes_unit, driver_of, register_of, units_from, circuit_on}
-use Rattle.new_board.specs.NewChip.{NewChip, unit_on, register_given, register_driven, unit_register, register_on, is_registered_unit, first_registered, first_of}
+use Rattle.mig_base.specs.declared.circuit.Circuit.{Circuit}
+use Rattle.new_board.specs.declared.types.PlacedUnit.{PlacedUnit}
+use Rattle.new_board.specs.NewChip.{NewChip, unit_on, register_given, register_driven, unit_register, placed_register, register_on, is_registered_unit, first_registered}
 use Rattle.new_board.specs.NewFiles.{registered_pins}
-use Rattle.new_board.specs.OneForOne.{placed_from}
+use Rattle.new_board.specs.OneForOne.{old_rows, placed_from}
 use Rattle.new_board.proofs.Items.{among-filter, among-unfilter, among-map, among-unmap, among-append, among-any, any-among}
-use Rattle.rebuilt_boards.proofs.Columns.{RegistersFit, first-among, among-first}
+use Rattle.new_board.proofs.Columns.{RegistersFit, first-among, among-first}
 use Rattle.new_board.proofs.Products.{both-ways}
 use Rattle.rebuilt_boards.proofs.RebuiltCircuit.{board_of}
 use Rattle.rebuilt_boards.proofs.Combinational.{IsComb}
@@ -26,7 +28,8 @@ use Rattle.rebuilt_boards.proofs.Placing.{AreApart, IsUnitAt, placed-on}
 use Rattle.rebuilt_boards.proofs.PalCells.{IsCombCell, IsRegCell, pal-comb, pal-reg, enable-product, pal16-table}
 use Rattle.rebuilt_boards.proofs.PalUnits.{ArePals, IsPalUnit, pal-unit, pal-apart}
 use Rattle.rebuilt_boards.proofs.Ranges.{registers-apart, unit-place}
-use Rattle.rebuilt_boards.proofs.NeededVariables.{on-among}
+use Rattle.new_board.proofs.WellMade.{on-unit}
+use Rattle.rebuilt_boards.proofs.OldRows.{old-pin, old-unit}
 
 -- a combinational unit
 pub record IsCombUnit (net : Net) (chips : List ChipCells) (u : ChipUnit) : Type 0 where
@@ -125,47 +128,63 @@ register-get net chips u pals a e =
     ∙ ap (option_map (register_of net units)) (unit-place (registers_of units) u (registers-apart units (pal-apart net.chips chips pals)) (among-filter is_registered u units a e))
 
 -- the units of a chip
-placed-among : (j s p i : ℕ) (us : List ChipUnit) → Among {T = ℕ × ℕ} (p, i) (placed_from j s us) → (k : ℕ) × (i ≡ s + k) × IsUnitAt us (j, p) k
-placed-among j s p i [] a = absurd a
-placed-among j s p i (x ∷ xs) a =
-    at (among-append (p, i) (cond (eqb x.chip j) ((x.cell.pin, s) ∷ []) []) (placed_from j (s + 1) xs) a) (placed-among j (s + 1) p i xs)
+placed-among : (c : Circuit) (j s : ℕ) (y : PlacedUnit) (us : List ChipUnit) → Among y (placed_from c j s us) →
+    (k : ℕ) × (y.unit ≡ s + k) × IsUnitAt us (j, y.pin) k × (y ≡ old_rows c y.pin y.unit)
+placed-among c j s y [] a = absurd a
+placed-among c j s y (x ∷ xs) a =
+    at (among-append y (cond (eqb x.chip j) (old_rows c x.cell.pin s ∷ []) []) (placed_from c j (s + 1) xs) a) (placed-among c j (s + 1) y xs)
   where
-    first : (q : Bool) → eqb x.chip j ≡ q → Among {T = ℕ × ℕ} (p, i) (cond q ((x.cell.pin, s) ∷ []) []) → (k : ℕ) × (i ≡ s + k) × IsUnitAt (x ∷ xs) (j, p) k
+    first : (q : Bool) → eqb x.chip j ≡ q → Among y (cond q (old_rows c x.cell.pin s ∷ []) []) → (k : ℕ) × (y.unit ≡ s + k) × IsUnitAt (x ∷ xs) (j, y.pin) k × (y ≡ old_rows c y.pin y.unit)
     first true is (inl e) =
         let chips : x.chip ≡ j = eqb-true x.chip j is in
-        let pins : p ≡ x.cell.pin = ap (λ (y : ℕ × ℕ). y.0) e in
-        let number : i ≡ s = ap (λ (y : ℕ × ℕ). y.1) e in
-        (0, omega arith, record { unit = x; found = refl; place = λ t. (chips t, sym pins t) })
+        let pins : y.pin ≡ x.cell.pin = ap (λ (z : PlacedUnit). z.pin) e ∙ old-pin c x.cell.pin s in
+        let number : y.unit ≡ s = ap (λ (z : PlacedUnit). z.unit) e ∙ old-unit c x.cell.pin s in (
+          0,
+          omega arith,
+          record { unit = x; found = refl; place = λ t. (chips t, sym pins t) },
+          e ∙ ap (λ (p : ℕ). old_rows c p s) (sym pins) ∙ ap (old_rows c y.pin) (sym number),
+        )
     first true is (inr a) = absurd a
     first false is a = absurd a
 
-    at : Among {T = ℕ × ℕ} (p, i) (cond (eqb x.chip j) ((x.cell.pin, s) ∷ []) []) ⊎ Among {T = ℕ × ℕ} (p, i) (placed_from j (s + 1) xs) →
-        (Among {T = ℕ × ℕ} (p, i) (placed_from j (s + 1) xs) → (k : ℕ) × (i ≡ s + 1 + k) × IsUnitAt xs (j, p) k) → (k : ℕ) × (i ≡ s + k) × IsUnitAt (x ∷ xs) (j, p) k
+    at : Among y (cond (eqb x.chip j) (old_rows c x.cell.pin s ∷ []) []) ⊎ Among y (placed_from c j (s + 1) xs) →
+        (Among y (placed_from c j (s + 1) xs) → (k : ℕ) × (y.unit ≡ s + 1 + k) × IsUnitAt xs (j, y.pin) k × (y ≡ old_rows c y.pin y.unit)) →
+        (k : ℕ) × (y.unit ≡ s + k) × IsUnitAt (x ∷ xs) (j, y.pin) k × (y ≡ old_rows c y.pin y.unit)
     at (inl h) rest = first (eqb x.chip j) refl h
     at (inr h) rest =
         let r = rest h in
-        let number : i ≡ s + 1 + r.0 = r.1 in
-        (suc r.0, omega arith, record { unit = r.2.unit; found = r.2.found; place = r.2.place })
+        let number : y.unit ≡ s + 1 + r.0 = r.1 in
+        (suc r.0, omega arith, record { unit = r.2.unit; found = r.2.found; place = r.2.place }, r.3)
 
--- a new chip that holds the units of chip j on their pins
-pub record HoldsUnits (units : List ChipUnit) (j : ℕ) (chip : NewChip) : Type 0 where
-  pub placed : chip.units ≡ placed_from j 0 units
+-- a new chip that holds the units of chip j on their pins, with their old rows
+pub record HoldsUnits (c : Circuit) (units : List ChipUnit) (j : ℕ) (chip : NewChip) : Type 0 where
+  pub placed : chip.units ≡ placed_from c j 0 units
   pub apart : AreApart units
 
 -- a unit that is listed there
-pub listed-unit : (units : List ChipUnit) (j : ℕ) (chip : NewChip) (x : ℕ × ℕ) → HoldsUnits units j chip → Among x chip.units → IsUnitAt units (j, x.0) x.1
-listed-unit units j chip x h a =
-    let r = placed-among j 0 x.0 x.1 units (subst (Among x) h.placed a) in
-    let number : x.1 ≡ 0 + r.0 = r.1 in
-    let same : r.0 ≡ x.1 = omega arith in
-    subst (IsUnitAt units (j, x.0)) same r.2
+pub listed-unit : (c : Circuit) (units : List ChipUnit) (j : ℕ) (chip : NewChip) (x : PlacedUnit) → HoldsUnits c units j chip → Among x chip.units → IsUnitAt units (j, x.pin) x.unit
+listed-unit c units j chip x h a =
+    let r = placed-among c j 0 x units (subst (Among x) h.placed a) in
+    let number : x.unit ≡ 0 + r.0 = r.1 in
+    let same : r.0 ≡ x.unit = omega arith in
+    subst (IsUnitAt units (j, x.pin)) same r.2
+
+-- it has its old rows
+pub listed-rows : (c : Circuit) (units : List ChipUnit) (j : ℕ) (chip : NewChip) (x : PlacedUnit) → HoldsUnits c units j chip → Among x chip.units → x ≡ old_rows c x.pin x.unit
+listed-rows c units j chip x h a = (placed-among c j 0 x units (subst (Among x) h.placed a)).3
 
 -- it stands on its pin
-pub listed-on : (units : List ChipUnit) (j : ℕ) (chip : NewChip) (pin i : ℕ) → HoldsUnits units j chip → IsUnitAt units (j, pin) i → unit_on chip.units pin ≡ Some i
-listed-on units j chip pin i h u =
-    ap (λ (xs : List (ℕ × ℕ)). unit_on xs pin) h.placed
-    ∙ ap (λ (q : At). unit_on (placed_from q.0 0 units) q.1) (sym u.place)
-    ∙ placed-on 0 i units u.unit h.apart u.found ∙ ap (λ (k : ℕ). Some k) (omega arith)
+pub listed-on : (c : Circuit) (units : List ChipUnit) (j : ℕ) (chip : NewChip) (pin i : ℕ) → HoldsUnits c units j chip → IsUnitAt units (j, pin) i → unit_on chip.units pin ≡ Some (old_rows c pin i)
+listed-on c units j chip pin i h u =
+    ap (λ (xs : List PlacedUnit). unit_on xs pin) h.placed
+    ∙ ap (λ (q : At). unit_on (placed_from c q.0 0 units) q.1) (sym u.place)
+    ∙ placed-on c 0 i units u.unit h.apart u.found ∙ ap (λ (q : At). Some (old_rows c q.1 (0 + i))) u.place ∙ ap (λ (k : ℕ). Some (old_rows c pin k)) (omega arith)
+
+-- the unit that is found on a pin
+pub listed-at : (c : Circuit) (units : List ChipUnit) (j : ℕ) (chip : NewChip) (pin : ℕ) (x : PlacedUnit) → HoldsUnits c units j chip → unit_on chip.units pin ≡ Some x → IsUnitAt units (j, pin) x.unit
+listed-at c units j chip pin x h on =
+    let found = on-unit chip.units pin x on in
+    subst (λ (p : ℕ). IsUnitAt units (j, p) x.unit) found.1 (listed-unit c units j chip x h found.0)
 
 -- a registered unit of the chip
 pub record IsRegisterOf (units : List ChipUnit) (j : ℕ) (i : ℕ) : Type 0 where
@@ -181,52 +200,66 @@ registered-unit net units i u e = ap (λ (o : Option ℕ). is_some o) (unit-regi
     at true = refl
     at false = refl
 
+-- the register on the pin of a unit
+pub on-register : (net : Net) (units : List ChipUnit) (j : ℕ) (chip : NewChip) (pin i : ℕ) → HoldsUnits (circuit_on net units) units j chip → IsUnitAt units (j, pin) i →
+    register_on (circuit_on net units) chip pin ≡ unit_register (circuit_on net units) i
+on-register net units j chip pin i h u =
+    let c = circuit_on net units in
+    ap (option_and_then (placed_register c)) (listed-on c units j chip pin i h u) ∙ ap (unit_register c) (old-unit c pin i)
+
 -- the first registered unit of a chip is one of its registers
-pub first-is : (net : Net) (units : List ChipUnit) (j : ℕ) (chip : NewChip) (i : ℕ) → HoldsUnits units j chip → first_registered (circuit_on net units) chip ≡ Some i → IsRegisterOf units j i
-first-is net units j chip i h e = at (first_of (filter (is_registered_unit (circuit_on net units)) chip.units)) refl e
-  where
-    at : (o : Option (ℕ × ℕ)) → first_of (filter (is_registered_unit (circuit_on net units)) chip.units) ≡ o → option_map (λ (x : ℕ × ℕ). x.1) o ≡ Some i → IsRegisterOf units j i
-    at None is e = cc
-    at (Some x) is e =
-        let kept = among-unfilter (is_registered_unit (circuit_on net units)) x chip.units (first-among _ x is) in
-        let r = listed-unit units j chip x h kept.0 in
-        let number : x.1 ≡ i = same_Some x.1 i e in
-        record {
-          unit = r.unit;
-          found = ap (slice_get units) (sym number) ∙ r.found;
-          chip = ap (λ (q : At). q.0) r.place;
-          registered = sym (registered-unit net units x.1 r.unit r.found) ∙ kept.1;
-        }
+pub first-is : (net : Net) (units : List ChipUnit) (j : ℕ) (chip : NewChip) (x : PlacedUnit) → HoldsUnits (circuit_on net units) units j chip → first_registered (circuit_on net units) chip ≡ Some x →
+    IsRegisterOf units j x.unit
+first-is net units j chip x h e =
+    let c = circuit_on net units in
+    let kept = among-unfilter (is_registered_unit c) x chip.units (first-among _ x e) in
+    let r = listed-unit c units j chip x h kept.0 in
+    record {
+      unit = r.unit;
+      found = r.found;
+      chip = ap (λ (q : At). q.0) r.place;
+      registered = sym (registered-unit net units x.unit r.unit r.found) ∙ kept.1;
+    }
+
+-- with its old rows
+pub first-rows : (net : Net) (units : List ChipUnit) (j : ℕ) (chip : NewChip) (x : PlacedUnit) → HoldsUnits (circuit_on net units) units j chip → first_registered (circuit_on net units) chip ≡ Some x →
+    x ≡ old_rows (circuit_on net units) x.pin x.unit
+first-rows net units j chip x h e =
+    let c = circuit_on net units in
+    listed-rows c units j chip x h (among-unfilter (is_registered_unit c) x chip.units (first-among _ x e)).0
 
 -- a chip that has a register has a first one
-pub first-found : (net : Net) (units : List ChipUnit) (j : ℕ) (chip : NewChip) (pin i : ℕ) → HoldsUnits units j chip → (u : IsUnitAt units (j, pin) i) → is_registered u.unit ≡ true →
-    (k : ℕ) × (first_registered (circuit_on net units) chip ≡ Some k)
+pub first-found : (net : Net) (units : List ChipUnit) (j : ℕ) (chip : NewChip) (pin i : ℕ) → HoldsUnits (circuit_on net units) units j chip → (u : IsUnitAt units (j, pin) i) → is_registered u.unit ≡ true →
+    (x : PlacedUnit) × (first_registered (circuit_on net units) chip ≡ Some x)
 first-found net units j chip pin i h u e =
     let c = circuit_on net units in
-    let listed : Among {T = ℕ × ℕ} (pin, i) (filter (is_registered_unit c) chip.units) =
-    among-filter (is_registered_unit c) (pin, i) chip.units (on-among chip.units pin i (listed-on units j chip pin i h u)) (registered-unit net units i u.unit u.found ∙ e) in
-    let first = among-first (pin, i) (filter (is_registered_unit c) chip.units) listed in
-    (first.0.1, ap (option_map (λ (x : ℕ × ℕ). x.1)) first.1)
+    let x = old_rows c pin i in
+    let listed : Among x (filter (is_registered_unit c) chip.units) =
+    among-filter (is_registered_unit c) x chip.units (on-unit chip.units pin x (listed-on c units j chip pin i h u)).0
+    (ap (λ (k : ℕ). is_some (unit_register c k)) (old-unit c pin i) ∙ registered-unit net units i u.unit u.found ∙ e) in
+    among-first x (filter (is_registered_unit c) chip.units) listed
 
 -- the registered pins are those that have a register
-pub registers-fit : (net : Net) (units : List ChipUnit) (j : ℕ) (chip : NewChip) → HoldsUnits units j chip → RegistersFit (board_of net units) chip
+pub registers-fit : (net : Net) (units : List ChipUnit) (j : ℕ) (chip : NewChip) → HoldsUnits (circuit_on net units) units j chip → RegistersFit (board_of net units) chip
 registers-fit net units j chip h = record { each = λ pin. both-ways (is_among (registered_pins (board_of net units) chip) pin) (is_some (register_on (circuit_on net units) chip pin)) (there pin) (back pin) }
   where
     there : (pin : ℕ) → is_among (registered_pins (board_of net units) chip) pin ≡ true → is_some (register_on (circuit_on net units) chip pin) ≡ true
     there pin e =
+        let c = circuit_on net units in
         let p = any-among (λ p. eqb p pin) (registered_pins (board_of net units) chip) e in
-        let x = among-unmap (λ (x : ℕ × ℕ). x.0) p.0 (filter (is_registered_unit (circuit_on net units)) chip.units) p.1 in
-        let kept = among-unfilter (is_registered_unit (circuit_on net units)) x.0 chip.units x.1 in
-        let r = listed-unit units j chip x.0 h kept.0 in
-        let same : x.0.0 ≡ pin = sym x.2 ∙ eqb-true p.0 pin p.2 in
-        ap (λ (k : ℕ). is_some (register_on (circuit_on net units) chip k)) (sym same)
-        ∙ ap (λ (o : Option ℕ). is_some (option_and_then (unit_register (circuit_on net units)) o)) (listed-on units j chip x.0.0 x.0.1 h r) ∙ kept.1
+        let x = among-unmap (λ (x : PlacedUnit). x.pin) p.0 (filter (is_registered_unit c) chip.units) p.1 in
+        let kept = among-unfilter (is_registered_unit c) x.0 chip.units x.1 in
+        let r = listed-unit c units j chip x.0 h kept.0 in
+        let same : x.0.pin ≡ pin = sym x.2 ∙ eqb-true p.0 pin p.2 in
+        ap (λ (k : ℕ). is_some (register_on c chip k)) (sym same) ∙ ap (λ (o : Option ℕ). is_some o) (on-register net units j chip x.0.pin x.0.unit h r) ∙ kept.1
 
     back : (pin : ℕ) → is_some (register_on (circuit_on net units) chip pin) ≡ true → is_among (registered_pins (board_of net units) chip) pin ≡ true
     back pin e = at (unit_on chip.units pin) refl e
       where
-        at : (o : Option ℕ) → unit_on chip.units pin ≡ o → is_some (option_and_then (unit_register (circuit_on net units)) o) ≡ true → is_among (registered_pins (board_of net units) chip) pin ≡ true
+        at : (o : Option PlacedUnit) → unit_on chip.units pin ≡ o → is_some (option_and_then (placed_register (circuit_on net units)) o) ≡ true → is_among (registered_pins (board_of net units) chip) pin ≡ true
         at None is e = cc
-        at (Some i) is e = among-any (λ p. eqb p pin) pin (registered_pins (board_of net units) chip)
-            (among-map (λ (x : ℕ × ℕ). x.0) (pin, i) (filter (is_registered_unit (circuit_on net units)) chip.units)
-            (among-filter (is_registered_unit (circuit_on net units)) (pin, i) chip.units (on-among chip.units pin i is) e)) (eq-eqb pin pin refl)
+        at (Some x) is e =
+            let found = on-unit chip.units pin x is in
+            among-any (λ p. eqb p pin) x.pin (registered_pins (board_of net units) chip)
+            (among-map (λ (x : PlacedUnit). x.pin) x (filter (is_registered_unit (circuit_on net units)) chip.units)
+            (among-filter (is_registered_unit (circuit_on net units)) x chip.units found.0 e)) (eq-eqb x.pin pin found.1)

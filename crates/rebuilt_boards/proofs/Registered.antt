@@ -1,6 +1,5 @@
 -- A registered unit of a new chip drives the level of its old unit, and its register takes what the old one takes.
 use Rattle.std.proofs.Common.{ℕ, ◌≡◌, ◌≤◌, Bool, false, cond, List, [], ◌∷◌, ◌++◌, map, Option, Some, refl, sym, ap, ◌∙◌, subst, eqb, ne_eqb, arith}
-use Rattle.std.specs.Prelude.{option_and_then}
 use Rattle.std.specs.List.{slice_get, AllByRecursion}
 use Rattle.std.specs.Option.{option_map}
 use Rattle.std.proofs.lemmas.Option.{slice_get-map}
@@ -23,25 +22,29 @@ use Rattle.mig_base.specs.declared.circuit.Gives.TheVariants.{Visible}
 use Rattle.mig_base.specs.declared.circuit.Driver.{Driver}
 use Rattle.mig_base.specs.declared.circuit.Register.{Register}
 use Rattle.mig_base.specs.declared.circuit.Levels.{Levels}
-use Rattle.mig_base.specs.Accepted.{Among}
+use Rattle.mig_base.specs.Among.{Among}
 use Rattle.mig_base.specs.Values.{row_value, row_reads, sum_reads, inverted}
 use Rattle.mig_base.specs.Levels.{read_level, not3, and3, or3, level_at}
 use Rattle.mig_base.specs.DeviceTables.{enable_pin, is_22}
 use Rattle.mig_base.specs.Boards.{At, ChipUnit, at_of, place_of, net_of, is_registered, registers_of, low_pin, row_on, can_drive, driver_of, register_of, units_from, circuit_on}
 use Rattle.mig_base.specs.Structure.{variable_product, variable_gate}
-use Rattle.settle.specs.Settled.{gated}
-use Rattle.settle.specs.Follows.{SameAt}
-use Rattle.settle.proofs.Unique.{all_left, all_right}
-use Rattle.new_board.specs.NewChip.{OldBoard, NewChip, unit_on, first_register}
-use Rattle.new_board.specs.NewFiles.{new_enable, new_terms, new_row, new_reg, cell_driving, new_cell, new_cells, reset_gate, preset_gate}
-use Rattle.new_board.specs.OneForOne.{same_chip, same_chips}
+use Rattle.level_laws.specs.Settled.{gated}
+use Rattle.level_laws.specs.Follows.{SameAt}
+use Rattle.level_laws.proofs.Unique.{all_left, all_right}
+use Rattle.new_board.specs.NewChip.{OldBoard, NewChip, unit_on, register_driven, placed_register, first_registered}
+use Rattle.new_board.specs.declared.types.PlacedUnit.{PlacedUnit}
+use Rattle.new_board.specs.NewFiles.{new_enable, new_terms, new_row, pin_low_of, cell_by, cell_of, new_cell, new_cells, reset_gate, preset_gate}
+use Rattle.new_board.specs.OneForOne.{terms_over, old_rows, same_chip, same_chips}
 use Rattle.new_board.proofs.Items.{filter-map, all-append, among-get}
-use Rattle.rebuilt_boards.proofs.RebuiltCircuit.{board_of, chip_at, rebuilt_unit, rebuilt_units, rebuilt_net, rebuilt-at, NumbersFit, UnitsFit, IsPin, pin-old, pin-wire}
+use Rattle.rebuilt_boards.proofs.RebuiltCircuit.{board_of, chip_at, rebuilt_unit, rebuilt_units, rebuilt-at, UnitsFit, IsPin, pin-old, pin-wire}
+use Rattle.new_board.proofs.NewWiring.{rebuilt_net, NumbersFit}
 use Rattle.rebuilt_boards.proofs.RebuiltFollows.{old_read, IsKept, DriverFits, RegisterFits}
 use Rattle.rebuilt_boards.proofs.Combinational.{PinsFit, ProductFits, old_terms, rebuilt_terms, terms-value, terms-all, pins-kept, net-kept}
 use Rattle.rebuilt_boards.proofs.PalUnits.{ArePals, IsPalUnit, pal-unit}
 use Rattle.rebuilt_boards.proofs.RegisterUnits.{IsRegUnit, reg-registered, reg-driver, register_number, register-get}
-use Rattle.rebuilt_boards.proofs.EnablePins.{complement, HasRegister, first-register, SameConstants, Grounds, Powers, Neither}
+use Rattle.rebuilt_boards.proofs.OldRows.{old-reg}
+use Rattle.new_board.proofs.EnablePins.{complement}
+use Rattle.rebuilt_boards.proofs.EnablePins.{HasRegister, first-reg, SameConstants, Grounds, Powers, Neither}
 
 -- low-active enable pins
 
@@ -71,26 +74,57 @@ low-value l k n m (Neither e f) P same reads =
 
 -- the cell that becomes of a registered unit
 abbrev pub reg_made : OldBoard → NewChip → ChipUnit → Cell
-reg_made b chip u = record { pin = u.cell.pin; form = form.Reg; low = u.cell.low; pin_low = u.cell.pin_low; enable = enable.LowPin 11; terms = new_terms b chip (old_terms b u) }
+reg_made b chip u = record { pin = u.cell.pin; form = form.Reg; low = u.cell.low; pin_low = u.cell.pin_low; enable = enable.LowPin 11; terms = new_terms b chip (terms_over b.circuit (old_terms b u)) }
 
-pub reg-cell : (net : Net) (chips : List ChipCells) (chip : NewChip) (i : ℕ) (u : ChipUnit) → ArePals net.chips chips → IsRegUnit net chips u → unit_on chip.units u.cell.pin ≡ Some i →
+-- its rows over variables
+abbrev pub reg_rows : OldBoard → ℕ → ℕ → ChipUnit → PlacedUnit
+reg_rows b pin i u = record {
+  pin = pin;
+  unit = i;
+  low = u.cell.low;
+  terms = terms_over b.circuit (old_terms b u);
+  enable = variable_gate b.circuit (low_pin (net_of b.net (u.chip, 11)));
+  reset = variable_gate b.circuit (register_of b.net b.units u).reset;
+  preset = variable_gate b.circuit (register_of b.net b.units u).preset;
+}
+
+pub registered-driver : (net : Net) (chips : List ChipCells) (i : ℕ) (u : ChipUnit) → slice_get (units_from 0 chips) i ≡ Some u → IsRegUnit net chips u →
+    slice_get (circuit_on net (units_from 0 chips)).units i
+    ≡ Some (record { enable = low_pin (net_of net (u.chip, 11)); gives = Visible (register_number (units_from 0 chips) (at_of u)); low = u.cell.pin_low })
+registered-driver net chips i u e r =
+    let units = units_from 0 chips in
+    slice_get-map (driver_of net units) units i ∙ ap (option_map (driver_of net units)) e ∙ ap (λ (d : Driver). Some d) (reg-driver net chips u r)
+
+pub reg-cell : (net : Net) (chips : List ChipCells) (chip : NewChip) (i : ℕ) (u : ChipUnit) → ArePals net.chips chips → IsRegUnit net chips u →
+    unit_on chip.units u.cell.pin ≡ Some (old_rows (circuit_on net (units_from 0 chips)) u.cell.pin i) →
     slice_get (units_from 0 chips) i ≡ Some u → chip.kind ≡ Gal16V8 → new_cell (board_of net (units_from 0 chips)) chip u.cell.pin ≡ reg_made (board_of net (units_from 0 chips)) chip u
 reg-cell net chips chip i u pals r on e kind =
     let units = units_from 0 chips in
     let b = board_of net units in
+    let pin = u.cell.pin in
+    let k = register_number units (at_of u) in
     let gate = variable_gate b.circuit (low_pin (net_of net (u.chip, 11))) in
-    ap (λ (o : Option ℕ). cell_driving b chip u.cell.pin (option_and_then (slice_get (circuit_on net units).units) o)) on
-    ∙ ap (cell_driving b chip u.cell.pin) (slice_get-map (driver_of net units) units i ∙ ap (option_map (driver_of net units)) e)
-    ∙ ap (λ (d : Driver). cell_driving b chip u.cell.pin (Some d)) (reg-driver net chips u r)
-    ∙ ap (new_reg b chip u.cell.pin u.cell.pin_low gate) (register-get net chips u pals (among-get units i u e) (reg-registered net chips u r))
-    ∙ ap (λ (k : Kind). record {
-      pin = u.cell.pin;
+    let driver = registered-driver net chips i u e r in
+    let register = register-get net chips u pals (among-get units i u e) (reg-registered net chips u r) in
+    ap (cell_of b chip pin) on
+    ∙ ap (λ (x : PlacedUnit). cell_by b chip pin x (placed_register b.circuit x)) (old-reg b.circuit pin i k _ _ driver refl register)
+    ∙ ap (λ (o : Option Driver). cell_by b chip pin (reg_rows b pin i u) (register_driven o)) driver
+    ∙ ap (λ (o : Option Driver). let c : Cell = record {
+      pin = pin;
+      form = form.Reg;
+      low = u.cell.low;
+      pin_low = pin_low_of o;
+      enable = cond (is_22 chip.kind) (new_enable b chip gate) (enable.LowPin (enable_pin chip.kind));
+      terms = new_terms b chip (terms_over b.circuit (old_terms b u));
+    } in c) driver
+    ∙ ap (λ (k : Kind). let c : Cell = record {
+      pin = pin;
       form = form.Reg;
       low = u.cell.low;
       pin_low = u.cell.pin_low;
       enable = cond (is_22 k) (new_enable b chip gate) (enable.LowPin (enable_pin k));
-      terms = new_terms b chip (old_terms b u);
-    }) kind
+      terms = new_terms b chip (terms_over b.circuit (old_terms b u));
+    } in c) kind
 
 -- the registers keep their numbers
 
@@ -173,7 +207,7 @@ old-register net chips u p =
 
 -- the new register, where no register of the chip is reset or preset
 pub new-register : (net : Net) (chips : List ChipCells) (old : ℕ → ℕ) (i : ℕ) (u : ChipUnit) (line : ChipLine) → RegStands net chips old i u → HasRegister net chips u.chip line u.cells →
-    chip_at (same_chips net chips) u.chip ≡ same_chip (units_from 0 chips) u.chip line u.cells →
+    chip_at (same_chips net chips) u.chip ≡ same_chip (board_of net (units_from 0 chips)) u.chip line u.cells →
     register_of (rebuilt_net (board_of net (units_from 0 chips)) (same_chips net chips)) (rebuilt_units (board_of net (units_from 0 chips)) (same_chips net chips))
     (rebuilt_unit (board_of net (units_from 0 chips)) (same_chips net chips) u)
     ≡ record {
@@ -190,30 +224,33 @@ new-register net chips old i u line s h is =
     let chip = chip_at news u.chip in
     let new = rebuilt_net b news in
     let made = rebuilt_units b news in
-    let first : first_register b.circuit chip ≡ Some (register_of net units h.unit.unit) = ap (first_register b.circuit) is ∙ first-register net chips u.chip line u.cells h in
-    let p = pal-unit net chips h.unit.unit s.pals (among-get units h.first h.unit.unit h.unit.found) in
-    let reset : reset_gate (first_register b.circuit chip) ≡ Never = ap reset_gate first ∙ pal-reset net chips units h.unit.unit p in
-    let preset : preset_gate (first_register b.circuit chip) ≡ Never = ap preset_gate first ∙ pal-preset net chips units h.unit.unit p in
+    let first : first_registered b.circuit chip ≡ Some h.first = ap (first_registered b.circuit) is ∙ h.first_is in
+    let rows = first-reg net chips u.chip line u.cells h in
+    let p = pal-unit net chips h.unit.unit s.pals (among-get units h.first.unit h.unit.unit h.unit.found) in
+    let reset : reset_gate (first_registered b.circuit chip) ≡ Never =
+    ap reset_gate first ∙ ap (λ (x : PlacedUnit). x.reset) rows ∙ ap (variable_gate b.circuit) (pal-reset net chips units h.unit.unit p) in
+    let preset : preset_gate (first_registered b.circuit chip) ≡ Never =
+    ap preset_gate first ∙ ap (λ (x : PlacedUnit). x.preset) rows ∙ ap (variable_gate b.circuit) (pal-preset net chips units h.unit.unit p) in
     ap (λ (c : Cell). register_of new made (record { chip = u.chip; cells = new_cells b chip; cell = c })) s.cell
     ∙ ap (λ (g : Gate). record {
       clock = net_of new (u.chip, 1);
       terms = rebuilt_terms b news u.chip chip (old_terms b u);
       low = u.cell.low;
-      reset = row_on new made u.chip (new_row b chip (variable_gate b.circuit g));
-      preset = row_on new made u.chip (new_row b chip (variable_gate b.circuit (preset_gate (first_register b.circuit chip))));
+      reset = row_on new made u.chip (new_row b chip g);
+      preset = row_on new made u.chip (new_row b chip (preset_gate (first_registered b.circuit chip)));
     }) reset
     ∙ ap (λ (g : Gate). record {
       clock = net_of new (u.chip, 1);
       terms = rebuilt_terms b news u.chip chip (old_terms b u);
       low = u.cell.low;
       reset = Never;
-      preset = row_on new made u.chip (new_row b chip (variable_gate b.circuit g));
+      preset = row_on new made u.chip (new_row b chip g);
     }) preset
 
 -- it takes what the old register takes
 pub reg-takes : (net : Net) (chips : List ChipCells) (old : ℕ → ℕ) (i : ℕ) (u : ChipUnit) (line : ChipLine) → NumbersFit (board_of net (units_from 0 chips)) (same_chips net chips) old →
     UnitsFit (board_of net (units_from 0 chips)) (same_chips net chips) → RegStands net chips old i u → HasRegister net chips u.chip line u.cells →
-    chip_at (same_chips net chips) u.chip ≡ same_chip (units_from 0 chips) u.chip line u.cells →
+    chip_at (same_chips net chips) u.chip ≡ same_chip (board_of net (units_from 0 chips)) u.chip line u.cells →
     PinsFit (board_of net (units_from 0 chips)) (same_chips net chips) old u.chip (chip_at (same_chips net chips) u.chip) →
     ((t : List Literal) → Among t (old_terms (board_of net (units_from 0 chips)) u) → ProductFits (board_of net (units_from 0 chips)) (chip_at (same_chips net chips) u.chip) t) →
     IsPin (board_of net (units_from 0 chips)) (same_chips net chips) (u.chip, 1) (net_of net (u.chip, 1)) →

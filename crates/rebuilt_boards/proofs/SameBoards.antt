@@ -7,10 +7,10 @@ use Rattle.mig_base.specs.declared.nets.Net.{Net}
 use Rattle.mig_base.specs.declared.nets.NetLine.{NetLine}
 use Rattle.mig_base.specs.declared.nets.Port.{Port}
 use Rattle.mig_base.specs.declared.nets.Port.TheVariants.{Inner, Input, Output, Both}
-use Rattle.mig_base.specs.Accepted.{Among}
+use Rattle.mig_base.specs.Among.{Among}
 use Rattle.mig_base.specs.Boards.{circuit, is_port, is_port_kind, is_handed}
-use Rattle.settle.specs.Runs.{IsRun}
-use Rattle.settle.specs.SameBehaviour.{IsLawful, ShowsAlike, Handing, handed_levels, port_names, shown_at, IsSame}
+use Rattle.level_laws.specs.Runs.{IsRun}
+use Rattle.level_laws.specs.SameBehaviour.{IsLawful, ShowsAlike, Handing, handed_levels, port_names, shown_at, IsSame}
 
 -- a handed net is a port
 handed-ports : (ls : List NetLine) → filter (λ l. is_handed l.port) ls ≡ filter (λ l. is_handed l.port) (filter is_port ls)

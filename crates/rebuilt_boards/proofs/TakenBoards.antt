@@ -14,13 +14,15 @@ use Rattle.mig_base.specs.declared.circuit.NetKind.{NetKind}
 use Rattle.mig_base.specs.declared.circuit.NetKind.TheVariants.{Ground, Power, Handed, Shared, Inner}
 use Rattle.mig_base.specs.declared.circuit.Wire.{Wire}
 use Rattle.mig_base.specs.declared.circuit.Circuit.{Circuit}
-use Rattle.mig_base.specs.Accepted.{Among, is_fixed}
+use Rattle.mig_base.specs.Accepted.{is_fixed}
+use Rattle.mig_base.specs.Among.{Among}
 use Rattle.mig_base.specs.DeviceTables.{is_pal16}
 use Rattle.mig_base.specs.Values.{row_reads, sum_reads}
 use Rattle.mig_base.specs.WrittenBoard.{are_distinct}
 use Rattle.mig_base.specs.Boards.{is_registered, registers_of, driver_of, register_of, units_from, circuit}
 use Rattle.new_board.specs.InputPins.{chip_from}
-use Rattle.taken_boards.specs.TakenBoards.{is_free, has_few_drivers, is_undriven, are_taken_ports, is_taken_circuit, AreMade, is_input_kind, is_input_wire, have_one_clock, enable_undriven, terms_registered, is_combinational_net, TakenBoard}
+use Rattle.taken_boards.specs.TakenBoards.{is_free, has_few_drivers, is_undriven, are_taken_ports, is_taken_circuit, is_input_kind, is_input_wire, have_one_clock, enable_undriven, terms_registered, is_combinational_net, TakenBoard}
+use Rattle.mig_base.specs.Given.{AreMade}
 use Rattle.rebuilt_boards.specs.RebuiltBoards.{BoardsAreRebuilt}
 use Rattle.new_board.proofs.Items.{among-get, among-filter, among-map, all-pass, among-any}
 use Rattle.rebuilt_boards.proofs.RebuiltCircuit.{board_of}

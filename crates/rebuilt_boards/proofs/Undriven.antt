@@ -12,15 +12,14 @@ use Rattle.mig_base.specs.declared.circuit.Read.TheVariants.{OfNet}
 use Rattle.mig_base.specs.declared.circuit.Literal.{Literal}
 use Rattle.mig_base.specs.declared.circuit.Wire.{Wire}
 use Rattle.mig_base.specs.declared.circuit.Circuit.{Circuit}
-use Rattle.mig_base.specs.Accepted.{Among}
+use Rattle.mig_base.specs.Among.{Among}
 use Rattle.mig_base.specs.DeviceTables.{is_pal16, pair_pins, ordinary_pins}
-use Rattle.mig_base.specs.Boards.{ChipUnit}
 use Rattle.mig_base.specs.Structure.{is_shared, alias_of, alias_only, alias_wire, or_alias, variable_by, variable_literal}
-use Rattle.new_board.specs.NewChip.{OldBoard, private_from}
+use Rattle.new_board.specs.NewChip.{OldBoard, private_from, has_no_driver}
 use Rattle.taken_boards.specs.TakenBoards.{is_undriven, is_undriven_wire}
-use Rattle.new_board.specs.InputPins.{has_no_driver, chip_from}
+use Rattle.new_board.specs.InputPins.{chip_from}
 use Rattle.new_board.specs.OneForOne.{gal_mode, same_chip}
-use Rattle.rebuilt_boards.proofs.Reading.{IsWired}
+use Rattle.new_board.proofs.Reading.{IsWired}
 use Rattle.rebuilt_boards.proofs.PalCells.{pal16-table}
 use Rattle.rebuilt_boards.proofs.PalUnits.{among-of}
 
@@ -50,9 +49,9 @@ pub record NamesFit (net : Net) : Type 0 where
   pub each : (j : ℕ) (line : ChipLine) → slice_get net.chips j ≡ Some line → chip_from 0 net.chips line.name ≡ Some (j, line.kind)
 
 -- the pins of the columns of the new chip are those of the old one, and ordinary
-pub same-pairs : (units : List ChipUnit) (j : ℕ) (line : ChipLine) (cells : ChipCells) → is_pal16 line.kind ≡ true →
-    pair_pins (same_chip units j line cells).kind (same_chip units j line cells).mode ≡ pair_pins line.kind Fixed
-same-pairs units j line cells pal =
+pub same-pairs : (b : OldBoard) (j : ℕ) (line : ChipLine) (cells : ChipCells) → is_pal16 line.kind ≡ true →
+    pair_pins (same_chip b j line cells).kind (same_chip b j line cells).mode ≡ pair_pins line.kind Fixed
+same-pairs b j line cells pal =
     let table = pal16-table line.kind pal in
     ap (λ (k : Kind). pair_pins k (gal_mode line.kind cells.mode)) table.gal ∙ table.pairs cells.mode
 

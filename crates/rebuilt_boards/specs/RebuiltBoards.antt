@@ -14,8 +14,8 @@ use Rattle.mig_base.specs.Boards.{circuit}
 use Rattle.mig_base.specs.Names.{is_name}
 use Rattle.mig_base.specs.WellFormed.{IsWellFormed}
 use Rattle.mig_base.specs.WrittenBoard.{IsWritable}
-use Rattle.settle.specs.Settled.{Ranked}
-use Rattle.settle.specs.SameBehaviour.{ShowsAlike, IsSame}
+use Rattle.mig_base.specs.Ranked.{Ranked}
+use Rattle.level_laws.specs.SameBehaviour.{ShowsAlike, IsSame}
 use Rattle.new_board.specs.NewFiles.{fitted, new_net}
 use Rattle.new_board.specs.OneForOne.{old_board, same_chips, one_for_one}
 use Rattle.taken_boards.specs.TakenBoards.{TakenBoard}

@@ -1,6 +1,5 @@
-pub mod Unique
-pub mod Exists
-pub mod FollowsSame
-pub mod Loops
-pub mod Pigeons
-pub mod OneRun
+pub mod LevelLaws
+pub mod OrderLaws
+pub mod StepLaws
+pub mod Known
+pub mod PureBoards

@@ -1,4 +1,4 @@
-pub mod Settled
-pub mod Runs
-pub mod SameBehaviour
-pub mod Follows
+pub mod Rules
+pub mod Edges
+pub mod Configs
+pub mod Made

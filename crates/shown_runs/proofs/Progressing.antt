@@ -1,6 +1,6 @@
 -- A run on its way, and what was sent of its report.
-use Rattle.std.proofs.Common.{ℕ, ◌≡◌, ◌<◌, ◌≤◌, ◌+◌, List, [], ◌∷◌, ◌++◌, length, map, drop, get_or, Option, Some, None, Result, Ok, Err, refl, sym, ap, ◌∙◌, subst, append_assoc}
-use Rattle.std.specs.List.{flat_map}
+use Rattle.std.proofs.Common.{ℕ, true, ◌≡◌, ◌<◌, ◌≤◌, ◌+◌, List, [], ◌∷◌, ◌++◌, length, map, drop, get_or, Option, Some, None, Result, Ok, Err, refl, sym, ap, ◌∙◌, subst, append_assoc}
+use Rattle.std.specs.List.{flat_map, list_all}
 use Rattle.std.proofs.lemmas.List.{append-nil, length-map, get_or-map}
 use Rattle.mig_base.specs.declared.levels.Level.{Level}
 use Rattle.mig_base.specs.declared.nets.NetLine.{NetLine}
@@ -11,17 +11,20 @@ use Rattle.mig_io.specs.declared.sink.PutError.{PutError}
 use Rattle.mig_io.specs.Holding.{Puts}
 use Rattle.answers.specs.Reports.{ports_line, show_line, run_report}
 use Rattle.board.specs.Joined.{Joined, equations_of}
-use Rattle.ranks.specs.Order.{IsOrder}
-use Rattle.script_text.specs.declared.scripts.Inputs.{Inputs}
-use Rattle.script_text.specs.declared.scripts.Script.{Script}
-use Rattle.settle.specs.Settled.{IsSettled}
-use Rattle.settle.specs.Runs.{IsStep, IsRunFrom, IsRun, power_up, shown_levels}
-use Rattle.settle.proofs.OneRun.{run-exists}
-use Rattle.steps.specs.declared.config.Config.{Config}
-use Rattle.steps.specs.Configs.{last_of}
-use Rattle.steps.proofs.StepLaws.{run-more, run-ends}
+use Rattle.mig_base.specs.Accepted.{IsAccepted}
+use Rattle.mig_base.specs.declared.circuit.Inputs.{Inputs}
+use Rattle.mig_base.specs.declared.scripts.Script.{Script}
+use Rattle.level_laws.specs.Settled.{IsSettled}
+use Rattle.level_laws.specs.Runs.{IsStep, IsRunFrom, IsRun, power_up, shown_levels}
+use Rattle.level_laws.proofs.RanksExist.{accepted-runs}
+use Rattle.settle.specs.declared.config.Config.{Config}
+use Rattle.settle.specs.Configs.{last_of}
+use Rattle.settle.proofs.StepLaws.{run-more, run-ends}
+use Rattle.settle.specs.Made.{IsInputFor}
+use Rattle.sim_run.specs.ScriptText.{ports_of}
+use Rattle.sim_run.specs.WrittenScript.{fit}
+use Rattle.sim_run.proofs.LawfulScripts.{fits-inputs}
 use Rattle.shown_runs.specs.Sending.{inputs_of, IsRunOf, Gets, GetsPart, Sends, Passes, PutsRun}
-use Rattle.steps.proofs.OrderRanks.{HasRanks, order-ranks}
 use Rattle.shown_runs.proofs.Sent.{gets-nothing, gets-both, gets-same, part-same, part-behind, part-longer, whole-part, sends-last}
 
 -- so many steps were made, the board is at this place between two steps, and of the report this text is still to be sent
@@ -87,14 +90,20 @@ on-way-more b script i s stored last now after l text longer old mid w lt item s
     within lt = subst (λ (n : ℕ). i < n) (sym (length-map script.steps (λ (s : Inputs). s.levels))) lt
 
 -- the same of the list of steps as it is lent
-pub on-way-stepped : (b : Joined) (script : Script) (steps : List Inputs) (i : ℕ) (s : Inputs) (given stored : List Level) (last : Option (List Level)) (now : List Level) (after : Option (List Level)) (l : Levels)
-    (text longer : List ℕ) (old mid : Option (List ℕ)) → IsOnWay b script i stored last text old mid → steps ≡ script.steps → i < length steps → s ≡ get_or steps i s → given ≡ s.levels →
-    IsStep (equations_of b) stored last given now → after ≡ Some given → IsSettled (equations_of b) now given l → longer ≡ text ++ show_line (shown_levels (equations_of b) l) →
+pub on-way-stepped : (b : Joined) (script : Script) (steps : List Inputs) (i : ℕ) (s : Inputs) (stored : List Level) (last : Option (List Level)) (now : List Level) (after : Option (List Level)) (l : Levels)
+    (text longer : List ℕ) (old mid : Option (List ℕ)) → IsOnWay b script i stored last text old mid → steps ≡ script.steps → i < length steps → s ≡ get_or steps i s →
+    IsStep (equations_of b) stored last s.levels now → after ≡ Some s.levels → IsSettled (equations_of b) now s.levels l → longer ≡ text ++ show_line (shown_levels (equations_of b) l) →
     IsOnWay b script (i + 1) now after longer old mid
-on-way-stepped b script steps i s given stored last now after l text longer old mid w same lt item levels step kept settled more =
+on-way-stepped b script steps i s stored last now after l text longer old mid w same lt item step kept settled more =
     on-way-more b script i s stored last now after l text longer old mid w (subst (λ (xs : List Inputs). i < length xs) same lt) (subst (λ (xs : List Inputs). s ≡ get_or xs i s) same item)
-    (subst (λ (g : List Level). IsStep (equations_of b) stored last g now) levels step) (kept ∙ ap (λ (g : List Level). Some g) levels)
-    (subst (λ (g : List Level). IsSettled (equations_of b) now g l) levels settled) more
+    step kept settled more
+
+-- the inputs of a step by its number, as it is lent
+pub step-handed : (b : Joined) (all steps : List Inputs) (i : ℕ) (s : Inputs) → list_all (λ s. fit (ports_of b.net) s.levels) all ≡ true → steps ≡ all → i < length steps → s ≡ get_or steps i s →
+    IsInputFor (equations_of b) s.levels
+step-handed b all steps i s fits same lt item =
+    subst (λ (q : Inputs). IsInputFor (equations_of b) q.levels) (sym (subst (λ (xs : List Inputs). s ≡ get_or xs i s) same item))
+    (fits-inputs b.net b.chips all fits i s (subst (λ (xs : List Inputs). i < length xs) same lt))
 
 -- a front of the text was sent
 pub on-way-sent : (b : Joined) (script : Script) (i : ℕ) (stored : List Level) (last : Option (List Level)) (text rest : List ℕ) (old mid new : Option (List ℕ)) →
@@ -108,11 +117,10 @@ on-way-sent b script i stored last text rest old mid new w p = record {
 }
 
 -- the way breaks off: the run that it begins goes on without it
-pub on-way-breaks : (b : Joined) (script : Script) (i : ℕ) (stored : List Level) (last : Option (List Level)) (text : List ℕ) (old mid new : Option (List ℕ)) (e : PutError) (order : List Read) →
-    IsOrder (equations_of b) order → IsOnWay b script i stored last text old mid → GetsPart mid new text → PutsRun b script old new (Err e)
-on-way-breaks b script i stored last text old mid new e order o w part =
-    let ranks = order-ranks (equations_of b) order o in
-    let rest = run-exists (equations_of b) ranks.rank ranks.top ranks.ranked (drop i (inputs_of script)) stored last in (
+pub on-way-breaks : (b : Joined) (script : Script) (i : ℕ) (stored : List Level) (last : Option (List Level)) (text : List ℕ) (old mid new : Option (List ℕ)) (e : PutError) →
+    IsAccepted (equations_of b) → IsOnWay b script i stored last text old mid → GetsPart mid new text → PutsRun b script old new (Err e)
+on-way-breaks b script i stored last text old mid new e accepted w part =
+    let rest = accepted-runs (equations_of b) accepted (drop i (inputs_of script)) stored last in (
       w.seen ++ rest.0,
       w.so_far rest.0 rest.1,
       part-same old new (run_report b.net.nets w.seen ++ flat_map show_line rest.0) (run_report b.net.nets (w.seen ++ rest.0)) (sym (report-behind b.net.nets w.seen rest.0))

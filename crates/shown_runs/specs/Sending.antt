@@ -3,8 +3,8 @@ use Rattle.std.specs.Prelude.{ℕ, ◌≡◌, List, ◌++◌, take, map, Option,
 use Rattle.std.specs.Option.{option_map}
 use Rattle.mig_base.specs.declared.levels.Level.{Level}
 use Rattle.mig_io.specs.declared.sink.PutError.{PutError}
-use Rattle.script_text.specs.declared.scripts.Script.{Script}
-use Rattle.settle.specs.Runs.{IsRun}
+use Rattle.mig_base.specs.declared.scripts.Script.{Script}
+use Rattle.level_laws.specs.Runs.{IsRun}
 use Rattle.board.specs.Joined.{Joined, equations_of}
 use Rattle.answers.specs.Reports.{run_report}
 

@@ -1,15 +1,15 @@
 ghost use Rattle.std.specs.Prelude.{ℕ, List, Option, IsTrue};
 ghost use Rattle.std.specs.List.{list_all};
 ghost use Rattle.mig_io.specs.Counts.{PutCauses};
-ghost use Rattle.script_text.specs.ScriptText.{ports_of};
-ghost use Rattle.script_text.specs.WrittenScript.{fit};
+ghost use Rattle.sim_run.specs.ScriptText.{ports_of};
+ghost use Rattle.sim_run.specs.WrittenScript.{fit};
 ghost use Rattle.shown_runs.specs.Sending.{PutsRun};
 
 use crate::pieces::put_piece;
 use crate::progress::{begin, show_step};
 use board::Board;
+use mig_base::Script;
 use mig_io::{PutError, Sink};
-use script_text::Script;
 use std::alloc::Global;
 
 /// Runs a board from power-up under a script that can be read for it, and sends the report: the line of the ports, and a
@@ -27,12 +27,11 @@ pub fn put_run<O: Sink>(
     ensures sent { PutsRun board.now script.now (O.sent out.old) (O.sent out.new) result }
     ensures causes { PutCauses (O.faults out.old) (O.faults out.new) result }
 {
-    let order = board.order();
     let Ok(mut progress) = begin(alloc, board) else {
         return Err(PutError::Memory);
     };
     for inputs in script.steps.items() {
-        show_step(board, order, &mut progress, inputs.levels.items())?;
+        show_step(board, &mut progress, inputs)?;
         put_piece(alloc, &mut progress.text, out)?;
     }
     out.put(alloc, progress.text.as_bytes())

@@ -1,7 +1,7 @@
 -- The inputs of each script that a text says are lawful for its board.
 use Rattle.std.proofs.Common.{ℕ, ◌≡◌, ◌⊎◌, ◌<◌, ◌≤◌, ◌+◌, Bool, true, false, cond, ◌&&◌, List, [], ◌∷◌, ◌++◌, map, filter, drop, length, Result, Ok, Err, refl, sym, ap, ◌∙◌, arith, inl, inr}
 use Rattle.std.specs.Prelude.{All, IfOk, if◌then◌else◌}
-use Rattle.std.specs.List.{AllByRecursion, cons_option}
+use Rattle.std.specs.List.{AllByRecursion, cons_option, list_all}
 use Rattle.std.proofs.lemmas.Bool.{and_parts, cases_lt}
 use Rattle.std.proofs.lemmas.List.{drop_more, drop_all}
 use Rattle.std.proofs.lemmas.List.Sums.{AllPass-from_list_all}
@@ -19,15 +19,16 @@ use Rattle.mig_base.specs.declared.circuit.NetKind.{NetKind}
 use Rattle.mig_base.specs.declared.circuit.NetKind.TheVariants.{Inner}
 use Rattle.mig_base.specs.Boards.{At, ChipUnit, circuit, is_handed, kind_at, kinds_from, kinds_of, privates, units_from, wires_from}
 use Rattle.mig_base.specs.WrittenBoard.{IsWritable}
-use Rattle.settle.specs.SameBehaviour.{IsBit, IsHandable, IsLawfulAt}
-use Rattle.steps.specs.Configs.{is_handed as takes_level}
-use Rattle.script_text.specs.declared.scripts.Script.{Script}
-use Rattle.script_text.specs.declared.scripts.ScriptError.{ScriptError}
-use Rattle.script_text.specs.ScriptText.{port_on, ports_from, ports_of, script_of_text}
-use Rattle.script_text.specs.Statements.{Answers}
-use Rattle.script_text.specs.WrittenScript.{takes, fit, IsWritableScript}
-use Rattle.script_text.proofs.GivenScripts.{script-given}
-use Rattle.sim_run.specs.Made.{IsInputFor}
+use Rattle.level_laws.specs.SameBehaviour.{IsBit, IsHandable, IsLawfulAt}
+use Rattle.settle.specs.Configs.{is_handed as takes_level}
+use Rattle.mig_base.specs.declared.circuit.Inputs.{Inputs}
+use Rattle.mig_base.specs.declared.scripts.Script.{Script}
+use Rattle.mig_base.specs.declared.scripts.ScriptError.{ScriptError}
+use Rattle.sim_run.specs.ScriptText.{port_on, ports_from, ports_of, script_of_text}
+use Rattle.sim_run.specs.Statements.{Answers}
+use Rattle.sim_run.specs.WrittenScript.{takes, fit, IsWritableScript}
+use Rattle.sim_run.proofs.GivenScripts.{script-given}
+use Rattle.settle.specs.Made.{IsInputFor}
 
 -- a net of this direction
 abbrev directed : NetLine → Port → NetLine
@@ -145,9 +146,13 @@ fit-input net chips levels h =
       lawful = wires-suit levels net units 0 (kinds_of net) (tt, (tt, kinds-suit levels 0 2 net.nets (privates net) h));
     }
 
--- the inputs of a script that a text can say
+-- so are those of a script whose steps all fit
+pub fits-inputs : (net : Net) (chips : List ChipCells) (steps : List Inputs) → list_all (λ given. fit (ports_of net) given.levels) steps ≡ true → All (λ given. IsInputFor (circuit net chips) given.levels) steps
+fits-inputs net chips steps fits k d lt = fit-input net chips _ (AllPass-from_list_all (λ given. fit (ports_of net) given.levels) steps fits k d lt)
+
+-- and those of a script that a text can say
 pub script-inputs : (net : Net) (chips : List ChipCells) (script : Script) → IsWritableScript net script → All (λ given. IsInputFor (circuit net chips) given.levels) script.steps
-script-inputs net chips script w k d lt = fit-input net chips _ (AllPass-from_list_all (λ given. fit (ports_of net) given.levels) script.steps w.steps_fit k d lt)
+script-inputs net chips script w = fits-inputs net chips script.steps w.steps_fit
 
 -- a script that is read can be written
 pub read-writable : (net : Net) (bytes : List ℕ) (read : Result Script ScriptError) → Answers (script_of_text (ports_of net) bytes) read → IsWritable net → IfOk read (IsWritableScript net)

@@ -1,4 +1,10 @@
-pub mod Known
+pub mod Tables
+pub mod StepsRead
+pub mod WrittenSteps
+pub mod WrittenPorts
+pub mod WrittenLevels
+pub mod ReadBack
+pub mod GivenScripts
 pub mod LawfulScripts
 pub mod Running
 pub mod PureRuns

@@ -2,8 +2,8 @@
 use Rattle.std.proofs.Common.{ℕ, ◌≡◌, ◌<◌, ◌≤◌, List, map, length, get_or, sym, ap, ◌∙◌, arith}
 use Rattle.std.proofs.lemmas.List.{get_or-map, length-map}
 use Rattle.mig_base.specs.declared.levels.Level.{Level}
-use Rattle.steps.specs.declared.runs.Shown.{Shown}
-use Rattle.script_text.specs.declared.scripts.Inputs.{Inputs}
+use Rattle.sim_run.specs.declared.shows.Shown.{Shown}
+use Rattle.mig_base.specs.declared.circuit.Inputs.{Inputs}
 
 -- the levels of each step
 abbrev pub levels_of : List Inputs → List (List Level)

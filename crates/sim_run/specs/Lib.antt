@@ -1,1 +1,3 @@
-pub mod Made
+pub mod ScriptText
+pub mod Statements
+pub mod WrittenScript

@@ -1,16 +1,18 @@
-//! Settled levels, steps and whole runs of a board, and the scripts that say what it is handed.
+//! Scripts, the texts that say what a board is handed step by step, and what it shows under them.
 #![tactic(auto)]
 
-#[cfg(test)]
-mod pure_tests;
+mod forms;
+mod handed;
+mod keeping;
+mod levels;
+mod naming;
+mod reading;
 mod scripts;
-mod settling;
-mod stepping;
+mod shows;
 #[cfg(test)]
 mod tests;
+mod writing;
 
-pub use script_text::{Inputs, Script, ScriptError};
+pub use mig_base::{Inputs, MOST_SCRIPT_BYTES, MOST_STEPS, Script, ScriptError};
 pub use scripts::{read_script, run_script, write_script};
-pub use settling::{State, settle, settle_into};
-pub use stepping::{power_up, shows_into, step};
-pub use steps::{Config, Shown};
+pub use shows::Shown;

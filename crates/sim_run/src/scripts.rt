@@ -1,19 +1,20 @@
 ghost use Rattle.std.specs.Prelude.{ℕ, ◌≡◌, ◌<◌, ◌^◌, List, All, length, map, IfOk, Ok};
 ghost use Rattle.mig_base.specs.declared.levels.Level.{Level as LevelOf};
-ghost use Rattle.mig_base.specs.WrittenBoard.{IsWritable};
-ghost use Rattle.settle.specs.Runs.{IsRun};
-ghost use Rattle.script_text.specs.ScriptText.{ports_of, script_of_text};
-ghost use Rattle.script_text.specs.Statements.{Answers};
-ghost use Rattle.script_text.specs.WrittenScript.{IsWritableScript, written_script};
-ghost use Rattle.pure_levels.specs.PureLevels.{ShowsPure};
+ghost use Rattle.level_laws.specs.Runs.{IsRun};
+ghost use Rattle.sim_run.specs.ScriptText.{ports_of, script_of_text};
+ghost use Rattle.sim_run.specs.Statements.{Answers};
+ghost use Rattle.sim_run.specs.WrittenScript.{IsWritableScript, written_script};
+ghost use Rattle.level_laws.specs.PureLevels.{ShowsPure};
 ghost use Rattle.board.specs.Joined.{equations_of};
-ghost use Rattle.sim_run.specs.Made.{IsInputFor};
+ghost use Rattle.settle.specs.Made.{IsInputFor};
 
+use crate::reading::script_for;
+use crate::shows::{Shown, shown_of};
+use crate::writing::text_of;
 use board::Board;
-use mig_base::NoMemory;
-use script_text::{Script, ScriptError};
+use mig_base::{NoMemory, Script, ScriptError};
+use settle::{power_up, step};
 use std::alloc::Global;
-use steps::{Shown, power_up, shown_of, step};
 
 /// The script that a text says for the Input and Both ports of a board, or the first refusal. Each step has the levels in
 /// board order, whatever order the text names the ports in.
@@ -24,10 +25,10 @@ use steps::{Shown, power_up, shown_of, step};
 pub fn read_script(alloc: Global, bytes: &[u8], b: &Board) -> Result<Script, ScriptError>
     requires bytes { length bytes.now < 2 ^ 32 }
     ensures said { Answers (script_of_text (ports_of b.now.net) bytes.now) result }
-    ensures writable { IsWritable b.now.net → IfOk result (IsWritableScript b.now.net) }
-    ensures lawful { IsWritable b.now.net → IfOk result (λ script. All (λ given. IsInputFor (equations_of b.now) given.levels) script.steps) }
+    ensures writable { IfOk result (IsWritableScript b.now.net) }
+    ensures lawful { IfOk result (λ script. All (λ given. IsInputFor (equations_of b.now) given.levels) script.steps) }
 {
-    script_text::read_script(alloc, bytes, b.net())
+    script_for(alloc, bytes, b.net())
 }
 
 /// The text of a script for a board: the head, the Input and Both ports in board order, a line for each step, and the end.
@@ -37,7 +38,7 @@ pub fn write_script(alloc: Global, b: &Board, script: &Script) -> Result<Vec<u8>
     ensures written { IfOk result (λ text. text.items ≡ written_script b.now.net script.now) }
     ensures read_back { IfOk result (λ text. script_of_text (ports_of b.now.net) text.items ≡ Ok script.now) }
 {
-    script_text::write_script(alloc, b.net(), script)
+    text_of(alloc, b.net(), script)
 }
 
 /// What a board shows from power-up after each step of a script: 0 or 1 at each pure port. Only want of memory refuses it.
@@ -48,13 +49,12 @@ pub fn run_script(alloc: Global, b: &Board, script: &Script) -> Result<Vec<Shown
         map (λ shown. shown.levels) showns.items ≡ others) }
     ensures pure { IfOk result (λ showns. All (λ shown. ShowsPure (equations_of b.now) shown.levels) showns.items) }
 {
-    let circuit = b.circuit();
-    let order = b.order();
-    let mut config = power_up(alloc, circuit)?;
+    let ports = b.circuit().ports.items().len();
+    let mut config = power_up(alloc, b)?;
     let mut showns = Vec::with_capacity(alloc, script.steps.items().len())?;
     for inputs in script.steps.items() {
-        step(circuit, order, &mut config, inputs.levels.items());
-        showns.push(shown_of(alloc, circuit, &config)?)?;
+        step(b, &mut config, inputs);
+        showns.push(shown_of(alloc, b, &config, ports)?)?;
     }
     Ok(showns)
 }

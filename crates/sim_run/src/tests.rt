@@ -1,27 +1,15 @@
-//! A board of one register behind a bus.
-
-ghost use Rattle.std.specs.Prelude.{◌≡◌, true, All, length, IfOk};
+ghost use Rattle.std.specs.Prelude.{◌≡◌, IfOk};
 ghost use Rattle.mig_base.specs.declared.nets.Pull.TheVariants.{Free as NoPull};
-ghost use Rattle.mig_base.specs.declared.kinds.Kind.TheVariants.{Pal16R4 as FourRegisters};
 ghost use Rattle.mig_base.specs.WrittenBoard.{IsWritable};
-ghost use Rattle.script_text.specs.WrittenScript.{IsWritableScript};
-ghost use Rattle.board.specs.Joined.{equations_of};
-ghost use Rattle.sim_run.specs.Made.{IsInputFor, IsStateFor, IsConfigFor};
 
-use crate::{
-    Config, Script, ScriptError, Shown, State, power_up, read_script, run_script, settle,
-    settle_into, shows_into, step, write_script,
-};
-use board::{Board, BoardError};
-use mig_base::{
-    Cell, ChipCells, ChipLine, Enable, Form, Items, Kind, Level, Lit, Mode, Name, Net, NetLine,
-    NoMemory, PinLine, Port, Product, Pull, Row, Source,
-};
+use crate::reading::script_for;
+use crate::writing::text_of;
+use crate::{Script, ScriptError};
+use mig_base::{Items, Level, Name, Net, NetLine, NoMemory, Port, Pull};
 use std::alloc::Global;
 use std::test::Fail;
 
-/// A named net without pull.
-fn line(name: &str, port: Port) -> Result<NetLine, NoMemory>
+fn net_line(name: &str, port: Port) -> Result<NetLine, NoMemory>
     ensures name { IfOk result (λ line. line.name ≡ name.now) }
     ensures port { IfOk result (λ line. line.port ≡ port) }
     ensures pull { IfOk result (λ line. line.pull ≡ NoPull) }
@@ -36,287 +24,198 @@ fn line(name: &str, port: Port) -> Result<NetLine, NoMemory>
     })
 }
 
-/// The line of the only chip.
-fn chip_line(name: &str) -> Result<ChipLine, NoMemory>
-    ensures name { IfOk result (λ line. line.name ≡ name.now) }
-    ensures kind { IfOk result (λ line. line.kind ≡ FourRegisters) }
+/// Two Input ports, a Both port and two nets that are handed no level.
+fn board(alloc: Global) -> Result<Net, NoMemory>
+    ensures { IfOk result (λ net. IsWritable net) }
 {
-    let Some(name) = Name::new(name.as_bytes()) else {
-        return Err(NoMemory);
-    };
-    Ok(ChipLine {
-        name,
-        kind: Kind::Pal16R4,
-    })
-}
-
-/// A pin of the only chip on a net.
-fn pin(pin: u8, net: u32) -> PinLine
-    ensures chip { result.chip ≡ 0 }
-    ensures pin { result.pin ≡ pin }
-    ensures net { result.net ≡ net }
-{
-    PinLine { chip: 0, pin, net }
-}
-
-/// A clock, a switch S, a bus B and an output Q on the pins of one chip.
-fn wiring(alloc: Global) -> Result<Net, NoMemory>
-    ensures writable { IfOk result (λ net. IsWritable net) }
-    ensures chips { IfOk result (λ net. length net.chips ≡ 1) }
-{
-    let clock = line("CLK", Port::Input)?;
-    let switch = line("S", Port::Input)?;
-    let bus = line("B", Port::Both)?;
-    let shown = line("Q", Port::Output)?;
-    let chip = chip_line("U1")?;
+    let y = net_line("Y", Port::Output)?;
+    let a = net_line("A", Port::Input)?;
+    let w = net_line("W", Port::Inner)?;
+    let b = net_line("B", Port::Input)?;
+    let c = net_line("C", Port::Both)?;
     Ok(Net {
-        nets: Items::new(vec![in alloc; clock, switch, bus, shown]?),
-        chips: Items::new(vec![in alloc; chip]?),
-        pins: Items::new(vec![in alloc; pin(1, 2), pin(2, 3), pin(3, 4), pin(11, 0), pin(17, 5)]?),
+        nets: Items::new(vec![in alloc; y, a, w, b, c]?),
+        chips: Items::new(Vec::new(alloc)),
+        pins: Items::new(Vec::new(alloc)),
     })
 }
 
-/// A register that stores S AND B and shows its complement on pin 17.
-fn chip(alloc: Global) -> Result<ChipCells, NoMemory> {
-    let switch = Lit {
-        source: Source::Pin(2),
-        high: true,
-    };
-    let bus = Lit {
-        source: Source::Pin(3),
-        high: true,
-    };
-    let cell = Cell {
-        pin: 17,
-        form: Form::Reg,
-        low: false,
-        pin_low: true,
-        enable: Enable::LowPin(11),
-        terms: Items::new(vec![in alloc; Product::new(alloc, &[switch, bus])?]?),
-    };
-    Ok(ChipCells {
-        kind: Kind::Pal16R4,
-        mode: Mode::Fixed,
-        cells: Items::new(vec![in alloc; cell]?),
-        reset: Row::Never,
-        preset: Row::Never,
+/// A net that shows its level and is handed none.
+fn board_without_inputs(alloc: Global) -> Result<Net, NoMemory>
+    ensures { IfOk result (λ net. IsWritable net) }
+{
+    let y = net_line("Y", Port::Output)?;
+    Ok(Net {
+        nets: Items::new(vec![in alloc; y]?),
+        chips: Items::new(Vec::new(alloc)),
+        pins: Items::new(Vec::new(alloc)),
     })
 }
 
-fn chips(alloc: Global) -> Result<Vec<ChipCells>, NoMemory> {
-    let mut chips = Vec::new(alloc);
-    chips.push(chip(alloc)?)?;
-    Ok(chips)
+/// One Input port.
+fn board_of_one(alloc: Global) -> Result<Net, NoMemory> {
+    let a = net_line("A", Port::Input)?;
+    Ok(Net {
+        nets: Items::new(vec![in alloc; a]?),
+        chips: Items::new(Vec::new(alloc)),
+        pins: Items::new(Vec::new(alloc)),
+    })
 }
 
-/// The board of a wiring and chips, where they are as many as it says.
-fn join(alloc: Global, net: Net, chips: Vec<ChipCells>) -> Result<Board, BoardError>
-    requires { IsWritable net }
-    ensures { IfOk result (λ b. IsWritable b.net) }
-{
-    let lines = net.chips.items().len();
-    if net.nets.items().len() > 1024 || lines > 64 || lines != chips.len() {
-        return Err(BoardError::Memory);
-    }
-    Board::join(alloc, net, chips)
-}
-
-fn joined(alloc: Global) -> Result<Board, BoardError>
-    ensures { IfOk result (λ b. IsWritable b.net) }
-{
-    let net = wiring(alloc)?;
-    let chips = chips(alloc)?;
-    join(alloc, net, chips)
-}
-
-fn board(alloc: Global) -> Result<Board, NoMemory>
-    ensures { IfOk result (λ b. IsWritable b.net) }
-{
-    match joined(alloc) {
-        Ok(b) => Ok(b),
-        Err(_) => Err(NoMemory),
-    }
-}
-
-fn script(alloc: Global, b: &Board, text: &str) -> Result<Script, ScriptError>
-    requires { IsWritable b.now.net }
-    ensures writable { IfOk result (IsWritableScript b.now.net) }
-    ensures lawful { IfOk result (λ script. All (λ given. IsInputFor (equations_of b.now) given.levels) script.steps) }
-{
-    if text.len() > 100 {
+/// The script of a text of this size.
+fn read(alloc: Global, net: &Net, text: &str) -> Result<Script, ScriptError> {
+    if text.len() > 4_194_304 {
         return Err(ScriptError::Memory);
     }
-    read_script(alloc, text.as_bytes(), b)
+    script_for(alloc, text.as_bytes(), net)
 }
 
-/// The level of Q after the last step.
-fn last_of(showns: &[Shown]) -> Option<Level> {
-    match showns.last() {
-        Some(shown) => shown.levels.items().get(3).copied(),
-        None => None,
-    }
-}
-
-/// The level of Q after the last step of a script.
-fn run(alloc: Global, b: &Board, text: &str) -> Result<Option<Level>, ScriptError>
-    requires { IsWritable b.now.net }
+/// The text that is written for the script of a text of this size.
+fn written_again(alloc: Global, net: &Net, text: &str) -> Result<Vec<u8>, ScriptError>
+    requires { IsWritable net.now }
 {
-    let script = script(alloc, b, text)?;
-    match run_script(alloc, b, &script) {
-        Ok(showns) => Ok(last_of(showns.as_slice())),
+    if text.len() > 4_194_304 {
+        return Err(ScriptError::Memory);
+    }
+    let script = script_for(alloc, text.as_bytes(), net)?;
+    match text_of(alloc, net, &script) {
+        Ok(bytes) => Ok(bytes),
         Err(_) => Err(ScriptError::Memory),
     }
 }
 
-/// The level of Q of the board after the last step of a script.
-fn level_after(alloc: Global, text: &str) -> Result<Option<Level>, ScriptError> {
-    match board(alloc) {
-        Ok(b) => run(alloc, &b, text),
-        Err(_) => Err(ScriptError::Memory),
+fn refusal(alloc: Global, net: &Net, text: &str) -> Option<ScriptError> {
+    match read(alloc, net, text) {
+        Ok(_) => None,
+        Err(error) => Some(error),
     }
 }
 
-const RUNS: [(&str, Level); 4] = [
-    ("script 1\nports S B CLK\nstep 111\nend\n", Level::One),
-    (
-        "script 1\nports S B CLK\nstep 110\nstep 011\nend\n",
-        Level::Zero,
-    ),
-    (
-        "script 1\nports S B CLK\nstep 0Z0\nstep 0Z1\nend\n",
-        Level::One,
-    ),
-    (
-        "script 1\nports S B CLK\nstep 1Z0\nstep 1Z1\nend\n",
-        Level::X,
-    ),
-];
-
-/// The register takes what S and B were before the clock rises, and the first step makes no edge. A bus that floats is X
-/// to it, and stays out where S is 0.
 #[test]
-fn register_takes_levels_of_before(rt: HostRuntime) -> Result<(), Fail> {
-    for (text, want) in RUNS {
-        assert!(rt; level_after(rt.alloc(), text)? == Some(want));
+fn the_levels_stand_in_board_order(rt: HostRuntime) -> Result<(), Fail> {
+    let net = board(rt.alloc())?;
+    let text = "# a run\nscript 1\r\n\tports  C A B\n\nstep z01\nstep 110\nend";
+    let script = read(rt.alloc(), &net, text)?;
+    let steps = script.steps.items();
+    assert_eq!(rt; steps.len(), 2);
+    assert!(rt; steps[0].levels.items() == [Level::Zero, Level::One, Level::Z].as_slice());
+    assert!(rt; steps[1].levels.items() == [Level::One, Level::Zero, Level::One].as_slice());
+    Ok(())
+}
+
+#[test]
+fn a_script_is_written_in_board_order(rt: HostRuntime) -> Result<(), Fail> {
+    let net = board(rt.alloc())?;
+    let text = "# a run\nscript 1\r\n\tports  C A B\n\nstep z01\nstep 110\nend";
+    let bytes = written_again(rt.alloc(), &net, text)?;
+    assert!(rt; bytes.as_slice() == b"script 1\nports A B C\nstep 01Z\nstep 101\nend\n".as_slice());
+    Ok(())
+}
+
+#[test]
+fn a_script_without_ports_or_steps_is_written(rt: HostRuntime) -> Result<(), Fail> {
+    let net = board_without_inputs(rt.alloc())?;
+    let stepped = "script 1\nports\nstep\nstep\nend\n";
+    let bytes = written_again(rt.alloc(), &net, stepped)?;
+    assert!(rt; bytes.as_slice() == stepped.as_bytes());
+    let board = board(rt.alloc())?;
+    let empty = "script 1\nports A B C\nend\n";
+    let bytes = written_again(rt.alloc(), &board, empty)?;
+    assert!(rt; bytes.as_slice() == empty.as_bytes());
+    Ok(())
+}
+
+#[test]
+fn the_first_wrong_line_is_refused(rt: HostRuntime) -> Result<(), Fail> {
+    let net = board(rt.alloc())?;
+    let cases = [
+        ("", ScriptError::NoEnd),
+        ("script 1", ScriptError::NoEnd),
+        ("script 1\nports A B C\nstep 000\n", ScriptError::NoEnd),
+        ("script 2\n", ScriptError::Line { n: 1 }),
+        ("\nports A B C\n", ScriptError::Line { n: 2 }),
+        ("script 1\nend\n", ScriptError::Line { n: 2 }),
+        ("script 1\nports A B b@d\n", ScriptError::Line { n: 2 }),
+        (
+            "script 1\nports A B C\nports A B C\nend\n",
+            ScriptError::Line { n: 3 },
+        ),
+        ("script 1\nports A A Q\n", ScriptError::PortTwice { n: 2 }),
+        ("script 1\nports A Y\n", ScriptError::PortUnknown { n: 2 }),
+        ("script 1\nports A W\n", ScriptError::PortUnknown { n: 2 }),
+        ("script 1\nports A C\n", ScriptError::PortLeft { net: 5 }),
+        ("script 1\nports C\n", ScriptError::PortLeft { net: 3 }),
+        (
+            "script 1\nports A B C\nstep Z00\n",
+            ScriptError::LevelBad { n: 3 },
+        ),
+        (
+            "script 1\nports C B A\nstep 0X0\n",
+            ScriptError::LevelBad { n: 3 },
+        ),
+        (
+            "script 1\nports A B C\nstep 00\n",
+            ScriptError::Line { n: 3 },
+        ),
+        ("script 1\nports A B C\nstep\n", ScriptError::Line { n: 3 }),
+        (
+            "script 1\nports A B C\nstep XXXX\n",
+            ScriptError::Line { n: 3 },
+        ),
+        (
+            "script 1\nports A B C\nend\nstep 000\n",
+            ScriptError::Line { n: 4 },
+        ),
+        ("script 1\nports A B C\nend\r", ScriptError::Line { n: 3 }),
+    ];
+    for (text, error) in cases {
+        assert_eq!(rt; refusal(rt.alloc(), &net, text), Some(error));
     }
     Ok(())
 }
 
-/// What a board of four ports shows after a step.
-fn shown(b: &Board, config: &Config) -> Result<[Level; 4], NoMemory>
-    requires config { IsConfigFor (equations_of b.now) config.now }
-    requires stepped { config.now.stepped ≡ true }
-{
-    if b.circuit().ports.items().len() != 4 {
-        return Err(NoMemory);
-    }
-    let mut shown = [Level::X; 4];
-    shows_into(b, config, &mut shown);
-    Ok(shown)
-}
-
-/// What a board shows after all steps of a script.
-fn stepped(alloc: Global, b: &Board, script: &Script) -> Result<[Level; 4], NoMemory>
-    requires { All (λ given. IsInputFor (equations_of b.now) given.levels) script.now.steps }
-{
-    let mut config = power_up(alloc, b)?;
-    let mut levels = [Level::X; 4];
-    for inputs in script.steps.items() {
-        step(b, &mut config, inputs);
-        levels = shown(b, &config)?;
-    }
-    Ok(levels)
-}
-
-/// The only register of a board stores 1.
-fn set(alloc: Global, b: &Board) -> Result<State, NoMemory>
-    ensures { IfOk result (λ state. IsStateFor (equations_of b.now) state.stored) }
-{
-    if b.circuit().registers.items().len() != 1 {
-        return Err(NoMemory);
-    }
-    let mut stored = Vec::new(alloc);
-    stored.push(Level::One)?;
-    Ok(State {
-        stored: Items::new(stored),
-    })
-}
-
-/// The level of Q where the register stores 1, under the last inputs of a script.
-fn settled(alloc: Global, b: &Board, script: &Script) -> Result<Option<Level>, NoMemory>
-    requires { All (λ given. IsInputFor (equations_of b.now) given.levels) script.now.steps }
-{
-    let state = set(alloc, b)?;
-    let mut shown = None;
-    for inputs in script.steps.items() {
-        let mut levels = settle(alloc, b, &state, inputs)?;
-        settle_into(b, &state, inputs, &mut levels);
-        shown = levels.nets.items().get(5).copied();
-    }
-    Ok(shown)
-}
-
-const TEXT: &str = "script 1\nports CLK S B\nstep 011\nstep 101\nend\n";
-
-/// Whether the steps show these levels at last.
-fn steps_show(alloc: Global, b: &Board) -> Result<bool, ScriptError>
-    requires { IsWritable b.now.net }
-{
-    let script = script(alloc, b, TEXT)?;
-    match stepped(alloc, b, &script) {
-        Ok(shown) => Ok(shown == [Level::One, Level::Zero, Level::One, Level::Zero]),
-        Err(_) => Err(ScriptError::Memory),
-    }
-}
-
-/// Whether a stored 1 is 0 at its pin.
-fn settles(alloc: Global, b: &Board) -> Result<bool, ScriptError>
-    requires { IsWritable b.now.net }
-{
-    let script = script(alloc, b, TEXT)?;
-    match settled(alloc, b, &script) {
-        Ok(level) => Ok(level == Some(Level::Zero)),
-        Err(_) => Err(ScriptError::Memory),
-    }
-}
-
-/// Whether the script of a text is written as this text.
-fn is_written_again(alloc: Global, b: &Board, text: &str) -> Result<bool, ScriptError>
-    requires { IsWritable b.now.net }
-{
-    let script = script(alloc, b, text)?;
-    match write_script(alloc, b, &script) {
-        Ok(written) => Ok(written.as_slice() == text.as_bytes()),
-        Err(_) => Err(ScriptError::Memory),
-    }
-}
-
-fn board_shows_steps(alloc: Global) -> Result<bool, ScriptError> {
-    match board(alloc) {
-        Ok(b) => steps_show(alloc, &b),
-        Err(_) => Err(ScriptError::Memory),
-    }
-}
-
-fn board_settles(alloc: Global) -> Result<bool, ScriptError> {
-    match board(alloc) {
-        Ok(b) => settles(alloc, &b),
-        Err(_) => Err(ScriptError::Memory),
-    }
-}
-
-fn board_writes_again(alloc: Global) -> Result<bool, ScriptError> {
-    match board(alloc) {
-        Ok(b) => is_written_again(alloc, &b, TEXT),
-        Err(_) => Err(ScriptError::Memory),
-    }
-}
-
-/// Steps show the levels of the ports in board order, a stored 1 is 0 at its pin, and a script is written again.
 #[test]
-fn board_is_stepped_and_settled(rt: HostRuntime) -> Result<(), Fail> {
-    assert!(rt; board_shows_steps(rt.alloc())?);
-    assert!(rt; board_settles(rt.alloc())?);
-    assert!(rt; board_writes_again(rt.alloc())?);
+fn a_board_without_ports_has_words_alone(rt: HostRuntime) -> Result<(), Fail> {
+    let net = board_without_inputs(rt.alloc())?;
+    let script = read(rt.alloc(), &net, "script 1\nports\nstep\nstep\nend\n")?;
+    assert_eq!(rt; script.steps.items().len(), 2);
+    assert_eq!(rt; script.steps.items()[0].levels.items().len(), 0);
+    assert_eq!(rt;
+        refusal(rt.alloc(), &net, "script 1\nports\nstep 0\nend\n"),
+        Some(ScriptError::Line { n: 3 })
+    );
+    assert_eq!(rt;
+        refusal(rt.alloc(), &net, "script 1\nend\n"),
+        Some(ScriptError::Line { n: 2 })
+    );
+    Ok(())
+}
+
+#[test]
+fn a_script_may_have_no_step(rt: HostRuntime) -> Result<(), Fail> {
+    let net = board(rt.alloc())?;
+    let script = read(rt.alloc(), &net, "script 1\nports A B C\nend\n")?;
+    assert_eq!(rt; script.steps.items().len(), 0);
+    Ok(())
+}
+
+#[test]
+fn a_hundred_thousand_steps_are_read(rt: HostRuntime) -> Result<(), Fail> {
+    let net = board_of_one(rt.alloc())?;
+    let mut text = String::from_str(rt.alloc(), "script 1\nports A\n")?;
+    for _ in 0..100_000u32 {
+        text.push_str("step 1\n")?;
+    }
+    let mut more = text.clone()?;
+    text.push_str("end\n")?;
+    assert_eq!(rt;
+        read(rt.alloc(), &net, text.as_str())?.steps.items().len(),
+        100_000
+    );
+    more.push_str("step 1\nend\n")?;
+    assert_eq!(rt;
+        refusal(rt.alloc(), &net, more.as_str()),
+        Some(ScriptError::StepsOver { n: 100_003 })
+    );
     Ok(())
 }

@@ -7,11 +7,12 @@ use Rattle.mig_base.specs.declared.circuit.Read.{Read}
 use Rattle.mig_base.specs.declared.circuit.Read.TheVariants.{OfNet, OfRegister}
 use Rattle.mig_base.specs.declared.circuit.Wire.{Wire}
 use Rattle.mig_base.specs.declared.circuit.Circuit.{Circuit}
-use Rattle.mig_base.specs.Accepted.{Among}
+use Rattle.mig_base.specs.Among.{Among}
 use Rattle.structure.specs.declared.sets.NodeSet.{NodeSet}
 use Rattle.structure.specs.NodeSets.{contains, with_node, with_nodes}
 use Rattle.structure.specs.Live.{WireNotHanded}
-use Rattle.structure.specs.Waking.{HasPorts, IsNeeded, IsNode}
+use Rattle.structure.specs.Waking.{HasPorts, IsNeeded}
+use Rattle.mig_base.specs.Reads.{IsNode}
 
 pub among-last : {T : Type 0} (x y : T) (xs : List T) → Among x (xs ++ y ∷ []) → Among x xs ⊎ (x ≡ y)
 among-last x y [] (inl e) = inr e

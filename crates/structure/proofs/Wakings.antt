@@ -9,12 +9,13 @@ use Rattle.mig_base.specs.declared.circuit.Read.TheVariants.{OfNet, OfRegister}
 use Rattle.mig_base.specs.declared.circuit.Driver.{Driver}
 use Rattle.mig_base.specs.declared.circuit.Wire.{Wire}
 use Rattle.mig_base.specs.declared.circuit.Circuit.{Circuit}
-use Rattle.mig_base.specs.Accepted.{Among}
+use Rattle.mig_base.specs.Among.{Among}
 use Rattle.structure.specs.declared.liveness.Waking.{Waking}
 use Rattle.structure.specs.declared.sets.NodeSet.{NodeSet}
 use Rattle.structure.specs.NodeSets.{contains, with_nodes}
 use Rattle.structure.specs.Live.{reads_of_unit, unit_reads, DrivesWire, StandsBehind, IsLiveSet, IsLive, IsLiveness}
-use Rattle.structure.specs.Waking.{HasPorts, IsNeeded, IsNode, IsWaking, AreAwake, AllAwake, falses, is_awake}
+use Rattle.structure.specs.Waking.{HasPorts, IsNeeded, IsWaking, AreAwake, AllAwake, falses, is_awake}
+use Rattle.mig_base.specs.Reads.{IsNode}
 use Rattle.structure.proofs.NeededNodes.{among-last, flag-raised, needed-all, nodes-kept, nodes-there}
 
 -- one more flag

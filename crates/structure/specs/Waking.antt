@@ -3,16 +3,12 @@ use Rattle.std.specs.Prelude.{ℕ, ◌≡◌, ◌<◌, ◌+◌, Bool, true, fals
 use Rattle.mig_base.specs.declared.circuit.Read.{Read}
 use Rattle.mig_base.specs.declared.circuit.Read.TheVariants.{OfNet, OfRegister}
 use Rattle.mig_base.specs.declared.circuit.Circuit.{Circuit}
-use Rattle.mig_base.specs.Accepted.{Among}
+use Rattle.mig_base.specs.Among.{Among}
 use Rattle.structure.specs.declared.liveness.Waking.{Waking}
 use Rattle.structure.specs.declared.sets.NodeSet.{NodeSet}
 use Rattle.structure.specs.NodeSets.{contains}
 use Rattle.structure.specs.Live.{unit_reads, StandsBehind, WireNotHanded, IsLive}
-
--- a net or a register of the board
-abbrev pub IsNode : Circuit → Read → Type 0
-IsNode c (OfNet n) = n < length c.nets
-IsNode c (OfRegister k) = k < length c.registers
+use Rattle.mig_base.specs.Reads.{IsNode}
 
 -- all units behind a node are live
 abbrev pub IsNeeded : Circuit → Read → Type 0

@@ -1,5 +1,5 @@
 ghost use Rattle.std.specs.Prelude.{ℕ, ◌≡◌, true, false, Some, slice_get, IfOk, IfSome, IfNone};
-ghost use Rattle.mig_base.specs.Accepted.{Among};
+ghost use Rattle.mig_base.specs.Among.{Among};
 ghost use Rattle.structure.specs.Absorbable.{is_plain as plain_unit, AbsorbsAt, AreAbsorbable};
 
 use crate::purity::is_always;

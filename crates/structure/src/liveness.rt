@@ -1,5 +1,5 @@
 ghost use Rattle.std.specs.Prelude.{ℕ, ◌≡◌, ◌<◌, true, false, Some, slice_get, IfOk};
-ghost use Rattle.mig_base.specs.Accepted.{Among};
+ghost use Rattle.mig_base.specs.Among.{Among};
 ghost use Rattle.mig_base.specs.declared.circuit.Read.TheVariants.{OfNet};
 ghost use Rattle.structure.specs.Live.{IsLive, IsLiveness, WireNotHanded};
 ghost use Rattle.structure.specs.Waking.{AreNeeded, IsWaking, falses, is_awake, AreAwake, NodeAwake, NetsAwake, QAwake, QsAwake, AllAwake};

@@ -22,8 +22,8 @@ use Rattle.mig_base.specs.declared.circuit.Circuit.{Circuit}
 use Rattle.mig_base.specs.DeviceTables.{is_pal16}
 use Rattle.mig_base.specs.Values.{row_reads, sum_reads}
 use Rattle.mig_base.specs.Accepted.{is_fixed}
-use Rattle.mig_base.specs.Cells.{cells_of}
 use Rattle.mig_base.specs.Boards.{circuit}
+use Rattle.mig_base.specs.Given.{AreMade}
 use Rattle.mig_base.specs.WrittenBoard.{are_distinct}
 
 abbrev pub is_free : Pull → Bool
@@ -101,17 +101,6 @@ are_taken_ports net = list_all (λ l. not (is_both l.port)) net.nets
 
 abbrev pub is_taken_form : Net → List ChipCells → Bool
 is_taken_form net chips = are_taken_ports net && is_taken_circuit (circuit net chips)
-
--- some fuses of the chip's kind make these cells
-abbrev pub IsMade : ChipLine → ChipCells → Type 0
-IsMade line cells = (bits : List Bool) × (cells_of line.kind bits ≡ Ok cells)
-
--- each chip has the cells that some fuses make
-abbrev pub AreMade : List ChipLine → List ChipCells → Type 0
-AreMade [] [] = Unit {0}
-AreMade [] (c ∷ cs) = ⊥
-AreMade (line ∷ lines) [] = ⊥
-AreMade (line ∷ lines) (c ∷ cs) = IsMade line c × AreMade lines cs
 
 -- a board that is taken, whose cells some fuses make; chips have different names, and each pin line is on a constant or a named net
 pub record TakenBoard (net : Net) (chips : List ChipCells) : Type 0 where

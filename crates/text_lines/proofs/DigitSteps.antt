@@ -6,7 +6,7 @@ use Rattle.std.proofs.lemmas.Bool.{eqb-true, and_parts, and_from, leb-true, le-l
 use Rattle.std.proofs.Math.Nat.{pow-le-pow_right, pow-suc}
 use Rattle.mig_base.specs.Numbers.{digit_value, digits_on, digits_of, in_base}
 use Rattle.mig_base.specs.Lines.{number_of, whole, is_empty}
-use Rattle.mig_base.proofs.Numerals.{IsDigit, digit_values, digits-whole, in_base-push, values-push}
+use Rattle.text_lines.proofs.Numerals.{IsDigit, digit_values, digits-whole, in_base-push, values-push}
 use Rattle.std.proofs.lemmas.List.{take_more, take_all, length-map}
 
 abbrev pub is_digit : ℕ → Bool

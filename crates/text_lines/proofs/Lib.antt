@@ -3,3 +3,5 @@ pub mod DigitSteps
 pub mod WrittenSteps
 pub mod Judging
 pub mod Places
+pub mod WrittenLines
+pub mod Numerals

@@ -9,7 +9,7 @@ use Rattle.mig_base.specs.declared.cells.ChipError.TheVariants.{Count}
 use Rattle.mig_base.specs.First.{made_from}
 use Rattle.mig_base.specs.DeviceTables.{rows_22, is_22}
 use Rattle.mig_base.specs.Cells as cells
-use Rattle.v22.proofs.V22Cells.{v22-table}
+use Rattle.devices.proofs.V22Tables.{v22-table}
 
 -- the columns of a chip with these fuses
 pub record AreColumns (k : Kind) (bits : List Bool) (columns : List Lit) : Type 0 where

@@ -21,36 +21,10 @@ use Rattle.mig_base.specs.Cells as cells
 use Rattle.mig_base.specs.WellFormed.{is_never, has_enable_row, is_low_pin, FitsCell, has_enable, has_inversions, most_terms, fits_row, fits_control}
 use Rattle.mig_base.specs.WrittenCells.{enable_rows, cell_rows}
 use Rattle.mig_base.proofs.ListLaws.{and-left, and-right, not-true, not-twice, all-append}
-use Rattle.mig_base.proofs.RowLaws.{IsDistinct, FitsColumns, distinct_pins, columns-distinct, length-columns}
-use Rattle.mig_base.proofs.MacrocellLaws.{cell_with, idle-is, comb-terms, terms-read, one-enable, filled-long, own_rows, never-fits, terms-fit, enable-row-fits, never-row-fits}
-use Rattle.v22.specs.Written22.{row_count, rows_of_cell, s0_fuse, s1_fuse}
-
--- the macrocell pins, falling
-abbrev pub falling_pins : List ℕ
-falling_pins = 23 ∷ 22 ∷ 21 ∷ 20 ∷ 19 ∷ 18 ∷ 17 ∷ 16 ∷ 15 ∷ 14 ∷ []
-
--- what the tables of a GAL22V10 hold
-pub record IsV22Table (k : Kind) : Type 0 where
-  pub is : is_22 k ≡ true
-  pub not_v8 : is_v8 k ≡ false
-  pub pins : cell_pins k ≡ made_from (λ (p : ℕ). p) 14 10
-  pub falling : reverse (cell_pins k) ≡ falling_pins
-  pub pairs : pair_pins k Fixed ≡ columns_22
-  pub count : (n : ℕ) → has_count k n ≡ ((n == 5828) || (n == 5892))
-  pub made : (bits : List Bool) → cells.cells_by_kind k bits ≡ Ok (cells.cells_22 k bits)
-
-pub v22-table : (k : Kind) → IsTrue (is_22 k) → IsV22Table k
-v22-table Gal22V10 h = record { is = refl; not_v8 = refl; pins = refl; falling = refl; pairs = refl; count = λ n. refl; made = λ bits. refl }
-v22-table Gal22V10Q h = record { is = refl; not_v8 = refl; pins = refl; falling = refl; pairs = refl; count = λ n. refl; made = λ bits. refl }
-v22-table _ h = cc
-
-pub v22-width : (k : Kind) (registers : List ℕ) → IsTrue (is_22 k) → length (cells.columns_of k Fixed registers) ≡ 44
-v22-width k registers h =
-    length-columns (even_reads_q k) registers (pair_pins k Fixed)
-    ∙ (let few : length (pair_pins k Fixed) ≡ 22 = ap length (v22-table k h).pairs in omega arith)
-
-pub v22-distinct : (k : Kind) (registers : List ℕ) → IsTrue (is_22 k) → IsDistinct (cells.columns_of k Fixed registers)
-v22-distinct k registers h = columns-distinct (even_reads_q k) registers (pair_pins k Fixed) (ap distinct_pins (v22-table k h).pairs)
+use Rattle.devices.proofs.RowLaws.{FitsColumns}
+use Rattle.devices.proofs.V22Tables.{IsV22Table}
+use Rattle.devices.proofs.MacrocellLaws.{cell_with, idle-is, comb-terms, terms-read, one-enable, filled-long, own_rows, never-fits, terms-fit, enable-row-fits, never-row-fits}
+use Rattle.mig_base.specs.Written22.{row_count, rows_of_cell, s0_fuse, s1_fuse}
 
 -- made again
 

@@ -21,10 +21,11 @@ use Rattle.mig_base.specs.Cells as cells
 use Rattle.mig_base.specs.WellFormed.{has_mode, is_reg, registers_in, chip_columns, FitsCell, IsWellFormed}
 use Rattle.mig_base.specs.WrittenCells.{column_fuse, row_fuses}
 use Rattle.mig_base.proofs.ListLaws.{length-pieces, made_from-items, at-all, all-flat, all-map, all-reverse, all-both, all-append, skip, filter-map}
-use Rattle.mig_base.proofs.RowLaws.{FitsColumns, array-row}
-use Rattle.mig_base.proofs.MacrocellLaws.{no_cell}
-use Rattle.v22.specs.Written22.{row_count, rows_of_cell, array_rows, v22_array, v22_fuses, s0_fuse, s1_by, s1_fuse, settings}
-use Rattle.v22.proofs.V22Cells.{falling_pins, IsV22Table, v22-table, v22-width, v22-distinct, cell-again, rows-long, rows-fit, control-fits}
+use Rattle.devices.proofs.RowLaws.{FitsColumns, array-row}
+use Rattle.devices.proofs.MacrocellLaws.{no_cell}
+use Rattle.mig_base.specs.Written22.{row_count, rows_of_cell, array_rows, v22_array, v22_fuses, s0_fuse, s1_by, s1_fuse, settings}
+use Rattle.devices.proofs.V22Tables.{falling_pins, IsV22Table, v22-table, v22-width, v22-distinct}
+use Rattle.v22.proofs.V22Cells.{cell-again, rows-long, rows-fit, control-fits}
 use Rattle.v22.proofs.V22Layout.{cell_pin, are_in_rows, rows_end, HasCount, HasRows, flat-long, rows-placed, are_in_order, HasSettings, settings-placed}
 
 -- a chip of the one mode that a GAL22V10 has

@@ -8,7 +8,7 @@ use Rattle.mig_base.specs.declared.cells.Row.{Row}
 use Rattle.mig_base.specs.declared.cells.Cell.{Cell}
 use Rattle.mig_base.specs.DeviceTables.{rows_22}
 use Rattle.mig_base.proofs.ListLaws.{and-true, skip}
-use Rattle.v22.specs.Written22.{row_count, rows_of_cell, s0_fuse, s1_fuse, settings}
+use Rattle.mig_base.specs.Written22.{row_count, rows_of_cell, s0_fuse, s1_fuse, settings}
 
 abbrev pub cell_pin : Cell → ℕ
 cell_pin cell = cell.pin

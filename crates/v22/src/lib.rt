@@ -5,21 +5,17 @@ ghost use Rattle.std.specs.Prelude.{◌≡◌, ◌<◌, ◌^◌, ◌==◌, ◌||
 ghost use Rattle.mig_base.specs.DeviceTables.{is_22};
 ghost use Rattle.mig_base.specs.Cells.{cells_of, AnswersCells};
 ghost use Rattle.mig_base.specs.WellFormed.{IsWellFormed};
-ghost use Rattle.v22.specs.Written22.{v22_fuses};
+ghost use Rattle.mig_base.specs.Written22.{v22_fuses};
 
 mod reading;
-mod tables;
 mod writing;
 
-use array_rows::push_states;
+use devices::{SIGNATURE, push_states};
 use mig_base::{ChipCells, ChipError, Fuses, Items, Kind, NoMemory};
 use std::alloc::Global;
 
 /// The fuses of a chip without signature fuses.
 const SHORT: usize = 5828;
-
-/// The signature fuses that a chip may have behind all others.
-const SIGNATURE: usize = 64;
 
 /// Whether a chip may have so many fuses: with or without its signature.
 fn is_count(count: usize) -> bool

@@ -3,8 +3,9 @@ ghost use Rattle.mig_base.specs.declared.kinds.Mode.TheVariants.{Fixed};
 ghost use Rattle.mig_base.specs.DeviceTables.{is_22, cell_pins};
 ghost use Rattle.mig_base.specs.Cells as fuse_cells;
 
-use crate::tables::{PRESET, RESET, rows_of};
-use array_rows::{array_row, columns_of, combinational, registered_by_row, rows};
+use devices::{
+    PRESET, RESET, array_row, columns_of, combinational, registered_by_row, rows, rows_of,
+};
 use mig_base::{Cell, ChipCells, Items, Kind, Lit, Mode, NoMemory};
 use std::alloc::Global;
 

@@ -5,7 +5,7 @@ ghost use Rattle.mig_base.specs.DeviceTables.{is_22};
 ghost use Rattle.mig_base.specs.WellFormed.{IsWellFormed};
 
 use super::*;
-use array_rows::idle;
+use devices::idle;
 use mig_base::{Cell, Enable, Form, Lit, Mode, Product, Row, Source};
 use std::alloc::AllocError;
 use std::test::Fail;

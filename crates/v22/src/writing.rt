@@ -1,10 +1,9 @@
 ghost use Rattle.std.specs.Prelude.{◌≡◌, ◌++◌, OnOk, reverse};
 ghost use Rattle.std.specs.List.{flat_map};
 ghost use Rattle.mig_base.specs.WrittenCells.{row_fuses};
-ghost use Rattle.v22.specs.Written22 as written;
+ghost use Rattle.mig_base.specs.Written22 as written;
 
-use crate::tables::rows_of;
-use array_rows::{chip_columns, push_cell, push_row};
+use devices::{chip_columns, push_cell, push_row, rows_of};
 use mig_base::{Cell, ChipCells, Form, Lit, Mode, NoMemory};
 use std::alloc::{AllocError, Global};
 

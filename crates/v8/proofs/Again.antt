@@ -1,7 +1,7 @@
 -- The fuses that are written make the cells again; parts that are written one after the other.
 use Rattle.std.proofs.Common.{◌≡◌, List, [], ◌∷◌, ◌++◌, ap, ◌∙◌, Bool}
 use Rattle.std.proofs.lemmas.List.{append_assoc}
-use Rattle.mig_base.proofs.V8Laws.{v8-again}
+use Rattle.v8.proofs.V8Laws.{v8-again}
 
 pub ruleset again_rules = (v8-again)
 

@@ -12,7 +12,7 @@ use Rattle.mig_base.specs.First.{made_from, or_else}
 use Rattle.mig_base.specs.DeviceTables.{has_count, is_v8}
 use Rattle.mig_base.specs.WellFormed.{has_mode}
 use Rattle.mig_base.specs.Cells as cells
-use Rattle.mig_base.proofs.MacrocellLaws.{v8-table}
+use Rattle.devices.proofs.MacrocellLaws.{v8-table}
 
 -- the refusal of a cell and of those behind it
 

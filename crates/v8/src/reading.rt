@@ -9,15 +9,12 @@ ghost use Rattle.mig_base.specs.Cells as cells;
 ghost use Rattle.v8.specs.DisabledRows.{row_over};
 
 use crate::settings::{ac1, is_enabled, xor};
-use array_rows::{
-    all_zero, array_row, columns_of, combinational, enable_pin, idle, output, registered, top_pin,
+use devices::{
+    CELL_ROWS, all_zero, array_row, columns_of, combinational, idle, output, registered, top_pin,
     width,
 };
-use mig_base::{Cell, ChipCells, ChipError, Items, Kind, Lit, Mode, NoMemory, Row};
+use mig_base::{Cell, ChipCells, ChipError, Items, Kind, Lit, Mode, NoMemory, Row, enable_pin};
 use std::alloc::Global;
-
-/// The rows of a macrocell.
-const CELL_ROWS: usize = 8;
 
 /// Whether a macrocell can't stand in complex mode: its AC1 fuse is 0, and its rows have a 1.
 fn is_bad_complex(kind: Kind, fuses: &[bool], pin: u8) -> bool

@@ -2,11 +2,8 @@ ghost use Rattle.std.specs.Prelude.{◌≡◌, ◌≤◌, ◌<◌, ◌+◌, IsTr
 ghost use Rattle.mig_base.specs.DeviceTables.{is_v8, top_pin as top_pin_of};
 ghost use Rattle.mig_base.specs.Cells as cells;
 
-use array_rows::{top_pin, width};
+use devices::{array_size, top_pin};
 use mig_base::{Kind, Mode};
-
-/// The rows of the array.
-const ROWS: usize = 64;
 
 /// The fuses behind the array: XOR, signature, AC1, row disable, SYN and AC0.
 const SETTINGS: usize = 146;
@@ -22,14 +19,6 @@ const SYN: usize = 144;
 
 /// The place of AC0.
 const AC0: usize = 145;
-
-/// The fuses of the array.
-fn array_size(kind: Kind) -> usize
-    requires { IsTrue (is_v8 kind) }
-    ensures { result ≡ cells.array_size kind }
-{
-    ROWS * width(kind)
-}
 
 /// The number of fuses.
 pub fn fuse_count(kind: Kind) -> usize

@@ -3,7 +3,7 @@ ghost use Rattle.mig_base.specs.DeviceTables.{is_v8};
 ghost use Rattle.mig_base.specs.WellFormed.{IsWellFormed};
 
 use super::*;
-use array_rows::idle;
+use devices::idle;
 use mig_base::{Cell, Enable, Form, Kind, Lit, Mode, Product, Row, Source};
 use std::alloc::AllocError;
 use std::test::Fail;

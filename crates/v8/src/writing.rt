@@ -1,18 +1,9 @@
 ghost use Rattle.std.specs.Prelude.{◌≡◌, ◌++◌, OnOk, map, reverse};
 ghost use Rattle.mig_base.specs.WrittenCells as written;
 
-use array_rows::{chip_columns, push_cell, push_states};
+use devices::{CELL_ROWS, ROWS, SIGNATURE, chip_columns, push_cell, push_states};
 use mig_base::{Cell, ChipCells, Form, Mode, NoMemory};
 use std::alloc::{AllocError, Global};
-
-/// The rows of a macrocell.
-const CELL_ROWS: usize = 8;
-
-/// The bits of the signature.
-const SIGNATURE: usize = 64;
-
-/// The rows of the array, each of which has a disable bit.
-const ROWS: usize = 64;
 
 /// Adds the array: eight rows for each cell, by falling pin.
 pub fn push_array(alloc: Global, cells: &ChipCells, fuses: &mut Vec<bool>) -> Result<(), NoMemory>

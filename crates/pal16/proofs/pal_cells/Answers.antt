@@ -17,11 +17,11 @@ counted n = Err (Count n)
 abbrev of_cells : Kind → List Cell → Result ChipCells ChipError
 of_cells kind cells = Ok (record { kind = kind; mode = Fixed; cells = cells; reset = row.Never; preset = row.Never })
 
-pub returns-then-bits-width : goal.returns-then-bits-width
-returns-then-bits-width c =
+pub returns-then-bits-array_size : goal.returns-then-bits-array_size
+returns-then-bits-array_size c =
     let bits = c.args.fuses.now.bits in
     let long : length c.items-bits.result.now ≡ length bits = ap length c.items-bits.ensures in
-    let ne : length bits ≢ 64 * array_width c.args.kind = λ e. c.if-bits-width.true (long ∙ e ∙ sym (ap (λ (w : ℕ). 64 * w) c.width.ensures)) in
+    let ne : length bits ≢ 64 * array_width c.args.kind = λ e. c.if-bits-array_size.true (long ∙ e ∙ sym c.array_size.ensures) in
     cells-wrong c.args.kind c.requires.kind bits ne ∙ ap counted (sym long)
 
 pub returns-in-Ok : goal.returns-in-Ok
@@ -30,7 +30,7 @@ returns-in-Ok c =
     let bits = c.args.fuses.now.bits in
     let same : c.items-bits.result.now ≡ bits = c.items-bits.ensures in
     let long : length c.items-bits.result.now ≡ length bits = ap length same in
-    let e : length bits ≡ 64 * array_width kind = sym long ∙ c.if-bits-width.false ∙ ap (λ (w : ℕ). 64 * w) c.width.ensures in
+    let e : length bits ≡ 64 * array_width kind = sym long ∙ c.if-bits-array_size.false ∙ c.array_size.ensures in
     let told : c.new.result ≡ (pal_cells kind bits).cells =
     c.new.ensures ∙ c.in-Ok.ensures ∙ ap (λ (bs : List Bool). map (pal_cell kind bs) (cell_pins kind)) same in
     cells-right kind c.requires.kind bits e

@@ -1,5 +1,5 @@
-use Rattle.std.proofs.Common.{ℕ, ◌+◌}
-use Rattle.settle.proofs.Loops.{no-loop}
+use Rattle.std.proofs.Common.{◌+◌}
+use Rattle.ranks.proofs.NoLoops.{no-loop}
 use Rattle.ranks.specs.RankEquations.{rank_in}
 use Rattle.ranks.proofs.RankLaws.{ranks-ranked}
 use Rattle.ranks.proofs.ranks_rule_out_loops.Goals as goal

@@ -1,7 +1,7 @@
 use Rattle.std.proofs.Common.{◌≡◌, ◌∙◌, ap, arith}
 use Rattle.std.proofs.lemmas.Grind.{common_steps}
 use Rattle.mig_base.specs.Cells.{cells_of}
-use Rattle.v22.specs.Written22.{v22_fuses}
+use Rattle.mig_base.specs.Written22.{v22_fuses}
 use Rattle.v22.proofs.V22Laws.{v22-again}
 use Rattle.v22.proofs.fuses_of.Goals as goal
 

@@ -1,6 +1,6 @@
 use Rattle.std.proofs.Common.{◌≡◌, ◌++◌, sym, subst, codes, string_bytes}
 use Rattle.std.specs.Prelude.{OnOk}
-use Rattle.board.specs.declared.BoardError.{BoardError}
+use Rattle.mig_base.specs.declared.nets.BoardError.{BoardError}
 use Rattle.mig_base.specs.WrittenBoard.{written_line}
 use Rattle.answers.specs.Reports.{reason_words, board_reason}
 use Rattle.answers.proofs.Lines.{file-line}

@@ -1,6 +1,6 @@
 use Rattle.std.proofs.Common.{◌≡◌, ◌++◌, take, map, string_bytes}
 use Rattle.std.specs.Prelude.{codes}
-use Rattle.script_text.specs.WrittenScript.{level_code}
+use Rattle.mig_base.specs.Levels.{level_code}
 use Rattle.answers.proofs.shows.write_levels.Given as goal
 
 abbrev pub invariant-loop-level : goal.invariant-loop-level

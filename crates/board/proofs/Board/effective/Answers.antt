@@ -2,6 +2,7 @@ use Rattle.std.proofs.Common.{◌≡◌, ◌<◌, ℕ, get_or, length, sym, ap, 
 use Rattle.board.specs.Enables.{effective_on, pin_enable}
 use Rattle.board.specs.Joined.{Joined, equations_of}
 use Rattle.board.proofs.BoardLaws.{holds, units-long, unit-is, chip-within, cells-are, cell-within, cell-is, effective-is, effective-same, pin-other}
+use Rattle.board.proofs.GivenLaws.{given-small}
 use Rattle.board.proofs.Board.effective.Goals as goal
 
 pub bounds-units-unit : goal.bounds-units-unit
@@ -36,7 +37,7 @@ net_of-net-requires c =
     let h = holds c.self.invariant b c.self.view_is in
     let r = c.index-units-unit.result in
     let n = unit-is b c.self.inside.tables c.items-units.result.now c.args.unit r h.tables c.items-units.ensures c.requires c.index-units-unit.is in
-    omega (arith, chip-within b c.args.unit r n, h.cells)
+    omega (arith, chip-within b c.args.unit r n, (given-small b.net b.chips h.given).cells)
 
 pub returns-in_default : goal.returns-in_default
 returns-in_default c =

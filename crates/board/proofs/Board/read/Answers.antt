@@ -1,6 +1,6 @@
 use Rattle.std.proofs.Common.{ℕ, List, length, get_or, sym, ap, subst, ◌∙◌, arith}
 use Rattle.mig_base.specs.declared.circuit.Read.TheVariants.{OfRegister}
-use Rattle.ranks.specs.Order.{IsNode}
+use Rattle.mig_base.specs.Reads.{IsNode}
 use Rattle.board.specs.Joined.{equations_of}
 use Rattle.board.specs.Variables.{IsVariable, read_of, var_of}
 use Rattle.board.proofs.BoardLaws.{holds, place-within, place-is, read-node, read-back}

@@ -3,4 +3,5 @@ use Rattle.new_board.specs.OneForOne.{same_chips_from}
 use Rattle.build.proofs.one_for_one.same_chips.Given as goal
 
 abbrev pub invariant-loop-number : goal.invariant-loop-number
-invariant-loop-number l = l.made.items ++ same_chips_from l.units l.number (drop l.number l.lines) (drop l.number l.chips) ≡ same_chips_from l.units 0 l.lines l.chips
+invariant-loop-number l =
+    l.made.items ++ same_chips_from l.old l.number (drop l.number l.old.net.chips) (drop l.number l.chips) ≡ same_chips_from l.old 0 l.old.net.chips l.chips

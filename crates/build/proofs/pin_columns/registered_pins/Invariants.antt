@@ -3,5 +3,5 @@ use Rattle.std.specs.Prelude.{filter}
 use Rattle.new_board.specs.NewChip.{is_registered_unit}
 use Rattle.build.proofs.pin_columns.registered_pins.Given as goal
 
-abbrev pub invariant-loop-pin : goal.invariant-loop-pin
-invariant-loop-pin l = l.pins.items ++ map (λ x. x.0) (filter (is_registered_unit l.circuit) (drop l.pin-index l.units)) ≡ map (λ x. x.0) (filter (is_registered_unit l.circuit) l.units)
+abbrev pub invariant-loop-unit : goal.invariant-loop-unit
+invariant-loop-unit l = l.pins.items ++ map (λ x. x.pin) (filter (is_registered_unit l.circuit) (drop l.unit-index l.units)) ≡ map (λ x. x.pin) (filter (is_registered_unit l.circuit) l.units)

@@ -2,5 +2,5 @@ use Rattle.std.proofs.Common.{◌≡◌, drop}
 use Rattle.new_board.specs.NewChip.{unit_on}
 use Rattle.chip_pins.proofs.planned.unit_among.Given as goal
 
-abbrev pub invariant-loop-place : goal.invariant-loop-place
-invariant-loop-place l = unit_on (drop l.place-index l.units) l.pin ≡ unit_on l.units l.pin
+abbrev pub invariant-loop-unit : goal.invariant-loop-unit
+invariant-loop-unit l = unit_on (drop l.unit-index l.units) l.pin ≡ unit_on l.units l.pin

@@ -1,4 +1,4 @@
-use Rattle.mig_base.proofs.WrittenKinds.{written-read}
+use Rattle.jed_write.proofs.WrittenKinds.{written-read}
 use Rattle.jed_write.proofs.law.read_back.Goals as goal
 
 pub returns : goal.returns

@@ -4,8 +4,8 @@ use Rattle.std.proofs.lemmas.Option.{slice_get-get_or}
 use Rattle.mig_base.specs.declared.circuit.Read.{Read}
 use Rattle.mig_base.specs.declared.circuit.Read.TheVariants.{OfNet}
 use Rattle.mig_base.specs.declared.nets.Var.{Var}
-use Rattle.ranks.specs.Order.{IsNode}
-use Rattle.ranks.proofs.Amongs.{among-all}
+use Rattle.mig_base.specs.Reads.{IsNode}
+use Rattle.mig_base.proofs.Amongs.{among-all}
 use Rattle.rails.proofs.ComposeLemmas.{keeps_trans, keeps_refl}
 use Rattle.board.specs.Joined.{equations_of}
 use Rattle.joiner.specs.Pairs.{IsProperPair, AreProper, ReadsPair, IsJoinedNode}
@@ -49,7 +49,7 @@ loop-node-init c = record {
   count = ap length c.in_ok-pairs.ensures ∙ length-replicate (length c.args.nets.now) None;
   proper = record { each = none_holds (λ n. IsProperPair c.args.rails.now.vars c.args.rails.now.graph) c.in_ok-pairs.pairs.items (length c.args.nets.now) c.in_ok-pairs.ensures };
   read = λ p r v h. record { variables = v; nets = none_holds (ReadsPair c.args.rails.now.graph p r) c.in_ok-pairs.pairs.items (length c.args.nets.now) c.in_ok-pairs.ensures };
-  every = λ absorbed are may n u a. absurd a;
+  every = λ absorbed marks are may closed n u a. absurd a;
 }
 
 pub loop-node-preserved : goal.loop-node-preserved
@@ -76,13 +76,13 @@ loop-node-preserved c =
       count = count_more b nets vars e old new v joined ∙ c.loop-node.invariant.count;
       proper = proper_more b nets vars d e old new k v is count joined c.loop-node.invariant.proper;
       read = read_more b nets vars d e old new k v is count joined c.loop-node.invariant.proper c.loop-node.invariant.read;
-      every = λ absorbed are may.
-          subst (HasPairsOf b absorbed vars new) (sym (take_more order i (OfNet 0) c.loop-node-test.true))
-          (has_more b absorbed nets vars e old new order i may are c.requires.order v (slice_get-get_or order i (OfNet 0) c.loop-node-test.true) is count joined (c.loop-node.invariant.every absorbed are may));
+      every = λ absorbed marks are may closed.
+          subst (HasPairsOf b absorbed marks vars new) (sym (take_more order i (OfNet 0) c.loop-node-test.true))
+          (has_more b absorbed marks nets vars e old new order i may are closed c.requires.order v (slice_get-get_or order i (OfNet 0) c.loop-node-test.true) is count joined (c.loop-node.invariant.every absorbed marks are may closed));
     }
 
 pub returns-clause-every : goal.returns-clause-every
-returns-clause-every c = λ absorbed are may.
-    has_all c.args.board.now absorbed c.args.rails.now.vars c.loop-node.pairs.items c.args.order.now c.requires.order
-    (subst (HasPairsOf c.args.board.now absorbed c.args.rails.now.vars c.loop-node.pairs.items) (take_all c.loop-node.node-index c.args.order.now c.loop-node-test.false)
-    (c.loop-node.invariant.every absorbed are may))
+returns-clause-every c = λ absorbed marks are may closed.
+    has_all c.args.board.now absorbed marks c.args.rails.now.vars c.loop-node.pairs.items c.args.order.now c.requires.order
+    (subst (HasPairsOf c.args.board.now absorbed marks c.args.rails.now.vars c.loop-node.pairs.items) (take_all c.loop-node.node-index c.args.order.now c.loop-node-test.false)
+    (c.loop-node.invariant.every absorbed marks are may closed))

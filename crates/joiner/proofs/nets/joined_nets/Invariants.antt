@@ -1,7 +1,9 @@
 use Rattle.std.proofs.Common.{◌≡◌, ℕ, List, length, take}
 use Rattle.bdd.specs.Diagram.{IsCanonical, Keeps}
-use Rattle.cones.specs.AbsorbedNets.{AreAbsorbedNets, AreAbsorbable}
-use Rattle.joiner.specs.Pairs.{AreProper, ReadPairs}
+use Rattle.joiner.specs.declared.marks.Marks.{Marks}
+use Rattle.joiner.specs.AbsorbedNets.{AreAbsorbable}
+use Rattle.joiner.specs.Marked.{AreNeededNets}
+use Rattle.joiner.specs.Pairs.{AreClosed, AreProper, ReadPairs}
 use Rattle.joiner.proofs.JoiningLaws.{HasPairsOf}
 use Rattle.joiner.proofs.nets.joined_nets.Given as goal
 
@@ -13,5 +15,5 @@ invariant-loop-node l = record {
   count : length l.pairs.items ≡ length l.nets;
   proper : AreProper l.fn.rails.vars l.rails.graph l.pairs.items;
   read : ReadPairs l.board l.nets l.fn.rails.vars l.rails.graph l.pairs.items;
-  every : (absorbed : List ℕ) → AreAbsorbedNets l.board absorbed l.nets → AreAbsorbable l.board absorbed → HasPairsOf l.board absorbed l.fn.rails.vars l.pairs.items (take l.node-index l.order);
+  every : (absorbed : List ℕ) (marks : Marks) → AreNeededNets l.board absorbed marks l.nets → AreAbsorbable l.board absorbed → AreClosed l.board absorbed marks → HasPairsOf l.board absorbed marks l.fn.rails.vars l.pairs.items (take l.node-index l.order);
 }

@@ -1,7 +1,7 @@
 use Rattle.std.proofs.Common.{◌≡◌, true, take}
 use Rattle.std.specs.List.{list_all}
 use Rattle.bdd.specs.Diagram.{IsCanonical, Keeps}
-use Rattle.cones.specs.Joined.{literal_read}
+use Rattle.joiner.specs.Joined.{literal_read}
 use Rattle.joiner.specs.Pairs.{Reads}
 use Rattle.joiner.proofs.sums.product.Given as goal
 

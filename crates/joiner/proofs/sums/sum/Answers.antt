@@ -5,7 +5,7 @@ use Rattle.mig_base.specs.declared.nets.VarLit.{VarLit}
 use Rattle.mig_base.specs.declared.nets.VarProduct.{VarProduct}
 use Rattle.rails.proofs.ComposeLemmas.{keeps_trans}
 use Rattle.rails.proofs.ProductLemmas.{any_more}
-use Rattle.cones.specs.Joined.{literal_read, product_read, terms_read}
+use Rattle.joiner.specs.Joined.{literal_read, product_read, terms_read}
 use Rattle.joiner.specs.Pairs.{Reads}
 use Rattle.joiner.proofs.PairLaws.{pairs_kept, reads_kept, reads_either}
 use Rattle.joiner.proofs.sums.sum.Goals as goal

@@ -1,6 +1,6 @@
 use Rattle.std.proofs.Common.{◌≡◌, true, take}
 use Rattle.bdd.specs.Diagram.{IsCanonical, Keeps}
-use Rattle.cones.specs.Joined.{terms_read}
+use Rattle.joiner.specs.Joined.{terms_read}
 use Rattle.joiner.specs.Pairs.{Reads}
 use Rattle.joiner.proofs.sums.sum.Given as goal
 

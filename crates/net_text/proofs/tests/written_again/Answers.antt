@@ -1,4 +1,4 @@
-use Rattle.mig_base.proofs.BoardGiven.{given-writable}
+use Rattle.net_text.proofs.BoardGiven.{given-writable}
 use Rattle.net_text.proofs.tests.written_again.Goals as goal
 
 pub write_net-requires : goal.write_net-requires

@@ -1,7 +1,7 @@
 use Rattle.std.proofs.Common.{◌≡◌, ◌<◌, ◌≤◌, arith, length, map, sym}
 use Rattle.std.proofs.lemmas.List.{length-map}
 use Rattle.mig_base.specs.BoardText.{net_names}
-use Rattle.mig_base.proofs.BoardGiven.{place-within}
+use Rattle.net_text.proofs.BoardGiven.{place-within}
 use Rattle.net_text.proofs.wiring.net_number.Goals as goal
 
 pub overflow_cast-result : goal.overflow_cast-result

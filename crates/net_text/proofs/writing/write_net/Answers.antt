@@ -2,7 +2,7 @@ use Rattle.std.proofs.Common.{◌≡◌, ap, ◌∙◌, arith}
 use Rattle.std.proofs.lemmas.Grind.{common_steps}
 use Rattle.mig_base.specs.BoardText.{net_of_text}
 use Rattle.mig_base.specs.WrittenBoard.{written_net}
-use Rattle.mig_base.proofs.BoardReadBack.{written-read}
+use Rattle.net_text.proofs.BoardReadBack.{written-read}
 use Rattle.net_text.proofs.writing.write_net.Goals as goal
 
 pub returns-clause-read_back : goal.returns-clause-read_back

@@ -3,7 +3,7 @@ use Rattle.mig_base.specs.declared.cells.Cell.{Cell}
 use Rattle.mig_base.specs.First.{made_from}
 use Rattle.mig_base.specs.DeviceTables.{top_pin}
 use Rattle.mig_base.specs.Cells.{pal_cell}
-use Rattle.array_rows.proofs.RowLemmas.{map-made_from-more}
+use Rattle.devices.proofs.RowLemmas.{map-made_from-more}
 use Rattle.pal16.proofs.PalLemmas.{pal-table}
 use Rattle.pal16.proofs.macrocells.cell_list.Goals as goal
 

@@ -1,8 +1,8 @@
-use Rattle.std.proofs.Common.{List, sym, subst, Ok, Err}
+use Rattle.std.proofs.Common.{◌≡◌, List, sym, subst, Ok, Err}
 use Rattle.std.proofs.lemmas.Result.{err_from_is_err_and}
 use Rattle.mig_base.specs.declared.nets.ChipLine.{ChipLine}
-use Rattle.palmig_top.specs.Verdict.{chips_held, LoadsChips}
-use Rattle.palmig_top.specs.Steps.{StepGives}
+use Rattle.verdicts.specs.JudgedBoard.{chips_held, LoadsChips}
+use Rattle.palmig_top.specs.Steps.{Step}
 use Rattle.palmig_top.proofs.BoardSteps.{wiring-refused, chips-refused, board-found, board-read, read-lines}
 use Rattle.palmig_top.proofs.boards.read_board.Goals as goal
 
@@ -18,7 +18,7 @@ returns-in_err-chips-clause-step g c =
     rw (p.1, p.2) (chips-refused (λ b. b) (λ v. v.items) (g.F.Files.held c.args.files.now) (g.F.Files.held c.read_wiring.new.files) (g.F.Files.held c.read_chips.new.files)
     (g.F.Files.counts c.args.files.now) (g.F.Files.counts c.read_wiring.new.files) (g.F.Files.counts c.read_chips.new.files) c.args.stem.now c.in_ok-net.net c.in_err-chips.field-0.0
     c.in_ok-net.ensures.step
-    (subst (λ (ls : List ChipLine). StepGives (λ v. v.items) (λ h. chips_held h c.args.stem.now ls) (λ h f. LoadsChips h c.args.stem.now ls f)
+    (subst (λ (ls : List ChipLine). Step (λ v. v.items) (λ h q. chips_held h c.args.stem.now ls ≡ q) (λ h f. LoadsChips h c.args.stem.now ls f)
     (g.F.Files.held c.read_wiring.new.files) (g.F.Files.held c.read_chips.new.files) (g.F.Files.counts c.read_wiring.new.files) (g.F.Files.counts c.read_chips.new.files)
     (Err c.in_err-chips.field-0.0)) c.items.ensures c.in_err-chips.ensures.step))
 
@@ -30,10 +30,10 @@ returns-clause-step g c =
     board-found (λ b. b) (λ v. v.items) (g.F.Files.held c.args.files.now) (g.F.Files.held c.read_wiring.new.files) (g.F.Files.held c.read_chips.new.files)
     (g.F.Files.counts c.args.files.now) (g.F.Files.counts c.read_wiring.new.files) (g.F.Files.counts c.read_chips.new.files) c.args.stem.now c.in_ok-net.net c.in_ok-chips.chips c.joined.result
     c.in_ok-net.ensures.step
-    (subst (λ (ls : List ChipLine). StepGives (λ v. v.items) (λ h. chips_held h c.args.stem.now ls) (λ h f. LoadsChips h c.args.stem.now ls f)
+    (subst (λ (ls : List ChipLine). Step (λ v. v.items) (λ h q. chips_held h c.args.stem.now ls ≡ q) (λ h f. LoadsChips h c.args.stem.now ls f)
     (g.F.Files.held c.read_wiring.new.files) (g.F.Files.held c.read_chips.new.files) (g.F.Files.counts c.read_wiring.new.files) (g.F.Files.counts c.read_chips.new.files)
     (Ok c.in_ok-chips.chips)) c.items.ensures c.in_ok-chips.ensures.step) c.joined.ensures
 
 pub returns-clause-read : goal.returns-clause-read
-returns-clause-read g c = board-read c.args.stem.now _ c.joined.result c.joined.ensures
+returns-clause-read g c = board-read _ _ c.joined.result c.joined.ensures
     (record { wiring = c.in_ok-net.ensures.read; chips = read-lines c.items.result.now c.in_ok-net.net.chips c.in_ok-chips.chips.items c.items.ensures c.in_ok-chips.ensures.read })

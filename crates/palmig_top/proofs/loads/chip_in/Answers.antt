@@ -1,6 +1,6 @@
 use Rattle.std.proofs.Common.{arith, ◌≤◌, ◌∙◌, ap, sym, length}
 use Rattle.mig_base.specs.FuseText.{fuses_of_text}
-use Rattle.mig_base.proofs.FuseCount.{few-fuses}
+use Rattle.jed_write.proofs.FuseCount.{few-fuses}
 use Rattle.palmig_top.proofs.loads.chip_in.Goals as goal
 
 pub cells-requires : goal.cells-requires

@@ -7,8 +7,6 @@ pub returns-then-len-most-clause-step :
 returns-then-len-most-clause-step g c = record {
   same = c.load.ensures.held.same;
   later = c.load.ensures.causes.later;
-  caused = tt;
-  failure = tt;
   gives = loaded-whole (g.F.Files.held c.args.files.now) c.args.most c.args.name c.in-Ok.bytes.items c.in-Ok.ensures.held.bytes (omega arith);
 }
 
@@ -17,7 +15,5 @@ pub returns-else-len-most-clause-step :
 returns-else-len-most-clause-step g c = record {
   same = c.load.ensures.held.same;
   later = c.load.ensures.causes.later;
-  caused = tt;
-  failure = tt;
-  gives = loaded-long (g.F.Files.held c.args.files.now) c.args.most c.args.name c.in-Ok.bytes.items c.in-Ok.ensures.held.bytes (omega arith);
+  gives = (tt, loaded-long (g.F.Files.held c.args.files.now) c.args.most c.args.name c.in-Ok.bytes.items c.in-Ok.ensures.held.bytes (omega arith));
 }

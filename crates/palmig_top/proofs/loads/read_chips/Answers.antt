@@ -3,7 +3,7 @@ use Rattle.std.proofs.lemmas.Result.{err_from_is_err_and}
 use Rattle.std.proofs.lemmas.List.{drop_more, take_more}
 use Rattle.mig_base.specs.declared.cells.ChipCells.{ChipCells}
 use Rattle.mig_base.specs.declared.nets.ChipLine.{ChipLine}
-use Rattle.taken_boards.specs.TakenBoards.{AreMade}
+use Rattle.mig_base.specs.Given.{AreMade}
 use Rattle.palmig_top.proofs.Chips.{ChipsSoFar, chips-step, chips-want, read-more}
 use Rattle.palmig_top.proofs.loads.read_chips.Goals as goal
 

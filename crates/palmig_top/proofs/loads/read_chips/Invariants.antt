@@ -1,5 +1,5 @@
 use Rattle.std.proofs.Common.{take, drop}
-use Rattle.taken_boards.specs.TakenBoards.{AreMade}
+use Rattle.mig_base.specs.Given.{AreMade}
 use Rattle.palmig_top.proofs.Chips.{ChipsSoFar}
 use Rattle.palmig_top.proofs.loads.read_chips.Given as goal
 

@@ -2,8 +2,8 @@ use Rattle.std.proofs.Common.{List, ◌≡◌, ◌∙◌, ◌+◌, ◌∷◌, �
 use Rattle.std.proofs.lemmas.List.{take_more}
 use Rattle.std.specs.Option.{option_map}
 use Rattle.palmig_top.specs.declared.saves.NewFile.{NewFile}
-use Rattle.palmig_top.specs.Verdict.{File}
-use Rattle.palmig_top.specs.Answer.{placed_all}
+use Rattle.verdicts.specs.Outcomes.{File}
+use Rattle.verdicts.specs.Answer.{placed_all}
 use Rattle.palmig_top.specs.Saving.{file_of}
 use Rattle.palmig_top.proofs.Chains.{fell-on}
 use Rattle.palmig_top.proofs.SavingLemmas.{one_more, take-files}

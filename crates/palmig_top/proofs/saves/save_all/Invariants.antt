@@ -1,7 +1,7 @@
 use Rattle.std.proofs.Common.{◌≡◌, take, map}
 use Rattle.std.specs.Option.{option_map}
 use Rattle.mig_io.specs.Counts.{NoneFell}
-use Rattle.palmig_top.specs.Answer.{placed_all}
+use Rattle.verdicts.specs.Answer.{placed_all}
 use Rattle.palmig_top.specs.Saving.{file_of}
 use Rattle.palmig_top.proofs.saves.save_all.Given as goal
 

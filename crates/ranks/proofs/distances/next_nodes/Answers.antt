@@ -1,4 +1,4 @@
-use Rattle.std.proofs.Common.{List, [], ◌∷◌, ◌++◌, ◌∙◌, get_or, take, sym, ap, subst}
+use Rattle.std.proofs.Common.{List, [], ◌∙◌, get_or, take, sym, ap, subst}
 use Rattle.std.specs.List.{flat_map}
 use Rattle.std.proofs.lemmas.List.{take_more}
 use Rattle.mig_base.specs.declared.circuit.Read.{Read}

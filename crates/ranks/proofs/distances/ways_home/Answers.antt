@@ -1,8 +1,7 @@
-use Rattle.std.proofs.Common.{◌≡◌, ◌<◌, ◌≤◌, ◌+◌, ◌∙◌, ℕ, List, [], ◌∷◌, ◌++◌, length, sym, ap, subst, arith}
+use Rattle.std.proofs.Common.{◌≡◌, ◌+◌, ◌∙◌, List, [], ◌∷◌, ◌++◌, length, sym, ap, subst, arith}
 use Rattle.std.specs.List.{flat_map}
 use Rattle.std.proofs.lemmas.Bool.{eqb-true, eqb-false}
 use Rattle.mig_base.specs.declared.circuit.Read.{Read}
-use Rattle.ranks.specs.declared.marks.Marks.{Marks}
 use Rattle.ranks.specs.Marked.{waiting}
 use Rattle.ranks.specs.Neighbours.{neighbours_at}
 use Rattle.ranks.specs.Ways.{IsReached, IsWays, IsFrontier}

@@ -1,8 +1,4 @@
-use Rattle.std.proofs.Common.{◌≡◌, ◌++◌, ◌∷◌, [], ◌+◌, ◌∙◌, List, ap, add-one, sym}
-use Rattle.std.proofs.lemmas.List.{append_assoc}
-use Rattle.mig_base.specs.declared.circuit.Read.{Read}
 use Rattle.mig_base.specs.declared.circuit.Read.TheVariants.{OfRegister}
-use Rattle.mig_base.specs.First.{made_from}
 use Rattle.ranks.proofs.Graphing.{pushed-next}
 use Rattle.ranks.proofs.graph.add_registers.Goals as goal
 

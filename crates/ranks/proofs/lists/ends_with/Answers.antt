@@ -1,7 +1,7 @@
 use Rattle.std.proofs.Common.{◌≡◌, ◌-◌, length, sym, ◌∙◌, subst, arith}
 use Rattle.std.proofs.lemmas.Bool.{eqb-false}
 use Rattle.mig_base.specs.declared.circuit.Read.{Read}
-use Rattle.mig_base.specs.Accepted.{Among}
+use Rattle.mig_base.specs.Among.{Among}
 use Rattle.ranks.proofs.Putting.{among-at}
 use Rattle.ranks.proofs.lists.ends_with.Goals as goal
 

@@ -1,12 +1,11 @@
-use Rattle.std.proofs.Common.{◌∙◌, List, get_or, refl, sym, subst}
+use Rattle.std.proofs.Common.{◌∙◌, get_or, refl, sym, subst}
 use Rattle.std.specs.Prelude.{IfSome, IfNone}
 use Rattle.std.proofs.lemmas.List.{take_all}
-use Rattle.mig_base.specs.declared.circuit.Read.{Read}
 use Rattle.mig_base.specs.declared.circuit.Read.TheVariants.{OfNet}
-use Rattle.mig_base.specs.Accepted.{Among}
+use Rattle.mig_base.specs.Among.{Among}
 use Rattle.ranks.specs.FirstLoop.{IsOnLoop}
 use Rattle.ranks.specs.Ways.{IsLoopBack}
-use Rattle.ranks.proofs.Amongs.{among-node, node-among}
+use Rattle.mig_base.proofs.Amongs.{among-node, node-among}
 use Rattle.ranks.proofs.Putting.{among-at}
 use Rattle.ranks.proofs.LoopLaws.{loop-first}
 use Rattle.ranks.proofs.Finishing.{none-next}

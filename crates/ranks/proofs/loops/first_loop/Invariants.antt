@@ -1,6 +1,6 @@
 use Rattle.std.proofs.Common.{take}
 use Rattle.mig_base.specs.declared.circuit.Read.{Read}
-use Rattle.mig_base.specs.Accepted.{Among}
+use Rattle.mig_base.specs.Among.{Among}
 use Rattle.ranks.specs.FirstLoop.{IsOnLoop}
 use Rattle.ranks.proofs.loops.first_loop.Given as goal
 

@@ -1,8 +1,5 @@
-use Rattle.std.proofs.Common.{◌+◌, List, ◌++◌, get_or, take, drop, sym, subst, refl}
-use Rattle.mig_base.specs.declared.circuit.Read.{Read}
+use Rattle.std.proofs.Common.{◌+◌, take, drop, refl}
 use Rattle.mig_base.specs.declared.circuit.Read.TheVariants.{OfNet}
-use Rattle.mig_base.specs.Accepted.{Among}
-use Rattle.ranks.specs.FirstLoop.{IsFirst}
 use Rattle.ranks.specs.Ways.{IsStep}
 use Rattle.ranks.proofs.LoopLaws.{split-at}
 use Rattle.ranks.proofs.Finishing.{none-next}

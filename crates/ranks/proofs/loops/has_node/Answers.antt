@@ -1,8 +1,7 @@
-use Rattle.std.proofs.Common.{◌⊎◌, [], ◌∷◌, List, get_or, take, sym, subst, inl, inr}
-use Rattle.std.proofs.lemmas.List.{take_more}
+use Rattle.std.proofs.Common.{sym, subst}
 use Rattle.mig_base.specs.declared.circuit.Read.{Read}
 use Rattle.mig_base.specs.declared.circuit.Read.TheVariants.{OfNet}
-use Rattle.mig_base.specs.Accepted.{Among}
+use Rattle.mig_base.specs.Among.{Among}
 use Rattle.ranks.proofs.Putting.{among-at}
 use Rattle.ranks.proofs.Finishing.{among-next}
 use Rattle.ranks.proofs.loops.has_node.Goals as goal

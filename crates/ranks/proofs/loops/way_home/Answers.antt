@@ -1,12 +1,12 @@
-use Rattle.std.proofs.Common.{◌≡◌, ◌<◌, ◌+◌, ◌-◌, ◌∙◌, ℕ, suc, zero, Some, List, [], ◌∷◌, ◌++◌, sym, ap, subst, arith}
+use Rattle.std.proofs.Common.{◌≡◌, ◌-◌, ◌∙◌, ℕ, suc, Some, List, sym, subst, arith}
 use Rattle.mig_base.specs.declared.circuit.Read.{Read}
-use Rattle.mig_base.specs.Accepted.{Among}
+use Rattle.mig_base.specs.Among.{Among}
 use Rattle.mig_base.specs.Reads.{node_reads}
 use Rattle.mig_base.specs.Structure.{all_variables}
 use Rattle.ranks.specs.FirstLoop.{IsFirst}
 use Rattle.ranks.specs.Marked.{mark_in}
 use Rattle.ranks.specs.Ways.{IsStep, IsLoopBack}
-use Rattle.ranks.proofs.LoopLaws.{IsOnWay, way-start, step-there, way-next, way-whole}
+use Rattle.ranks.proofs.LoopLaws.{IsOnWay, step-there, way-next, way-whole}
 use Rattle.ranks.proofs.loops.way_home.Goals as goal
 
 pub first_step-last-requires : goal.first_step-last-requires

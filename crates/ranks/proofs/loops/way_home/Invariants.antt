@@ -1,7 +1,3 @@
-use Rattle.std.proofs.Common.{◌≡◌, ◌+◌, ◌∷◌, ◌++◌, List, length, Some}
-use Rattle.mig_base.specs.declared.circuit.Read.{Read}
-use Rattle.ranks.specs.FirstLoop.{GoesHome}
-use Rattle.ranks.specs.Marked.{mark_in}
 use Rattle.ranks.proofs.LoopLaws.{IsOnWay}
 use Rattle.ranks.proofs.loops.way_home.Given as goal
 

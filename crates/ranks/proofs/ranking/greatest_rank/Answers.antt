@@ -1,4 +1,4 @@
-use Rattle.std.proofs.Common.{◌≡◌, ◌∙◌, List, [], ◌∷◌, ◌++◌, max, ℕ, map, take, sym, ap, subst, arith}
+use Rattle.std.proofs.Common.{◌∙◌, List, max, ℕ, map, take, sym, ap, subst}
 use Rattle.std.proofs.Math.ListN.{get_or}
 use Rattle.std.proofs.lemmas.List.{take_more}
 use Rattle.mig_base.specs.declared.circuit.Read.{Read}

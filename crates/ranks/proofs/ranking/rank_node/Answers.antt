@@ -1,6 +1,5 @@
-use Rattle.std.proofs.Common.{◌≡◌, ◌<◌, ◌≤◌, ◌+◌, ◌∙◌, ℕ, sym, ap, subst, arith}
-use Rattle.ranks.specs.declared.marks.Marks.{Marks}
-use Rattle.ranks.specs.Marked.{IsWaiting, waiting}
+use Rattle.std.proofs.Common.{sym, ap, subst, arith}
+use Rattle.ranks.specs.Marked.{waiting}
 use Rattle.ranks.specs.Ranking.{IsRanking}
 use Rattle.ranks.proofs.Marking.{waiting-marked}
 use Rattle.ranks.proofs.RankingLaws.{ranking-next}

@@ -1,9 +1,9 @@
-use Rattle.std.proofs.Common.{◌≡◌, ◌≤◌, ◌+◌, ◌∙◌, ℕ, List, map, sym, ap, subst, arith}
+use Rattle.std.proofs.Common.{◌≤◌, ◌+◌, ◌∙◌, ℕ, List, map, sym, ap, subst, arith}
 use Rattle.mig_base.specs.declared.circuit.Read.{Read}
 use Rattle.ranks.specs.Marked.{number_in}
 use Rattle.ranks.specs.RankEquations.{greatest}
 use Rattle.ranks.specs.Ranking.{AreReady}
-use Rattle.ranks.proofs.RankingLaws.{greatest-most, rule-driven, undriven-rank}
+use Rattle.ranks.proofs.RankingLaws.{greatest-most, rule-driven}
 use Rattle.ranks.proofs.ranking.rank_of.Goals as goal
 
 pub overflow_add-result : goal.overflow_add-result

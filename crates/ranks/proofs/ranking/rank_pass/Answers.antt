@@ -1,13 +1,7 @@
-use Rattle.std.proofs.Common.{◌≡◌, ◌∙◌, List, drop, take, sym, ap, subst, arith}
-use Rattle.std.specs.List.{AllByRecursion}
-use Rattle.std.proofs.lemmas.List.{take_all}
-use Rattle.mig_base.specs.declared.circuit.Read.{Read}
-use Rattle.mig_base.specs.Accepted.{Among}
-use Rattle.mig_base.specs.Structure.{all_variables}
-use Rattle.ranks.specs.declared.marks.Marks.{Marks}
-use Rattle.ranks.specs.Order.{IsNode}
-use Rattle.ranks.specs.Ranking.{IsPassed, IsStuck}
-use Rattle.ranks.proofs.Amongs.{among-all, among-node, node-among}
+use Rattle.std.proofs.Common.{◌∙◌, sym, subst}
+use Rattle.mig_base.specs.Among.{Among}
+use Rattle.ranks.specs.Ranking.{IsStuck}
+use Rattle.mig_base.proofs.Amongs.{among-node}
 use Rattle.ranks.proofs.Putting.{among-at}
 use Rattle.ranks.proofs.RankingLaws.{all-passed}
 use Rattle.ranks.proofs.ranking.rank_pass.Goals as goal

@@ -5,13 +5,12 @@ use Rattle.shown_runs.specs.Sending.{PutsRun}
 use Rattle.mig_io.specs.declared.sink.PutError.TheVariants.{Memory}
 use Rattle.mig_io.specs.Holding.{Puts}
 use Rattle.answers.specs.Reports.{ports_line}
-use Rattle.script_text.specs.declared.scripts.Inputs.{Inputs}
+use Rattle.mig_base.specs.declared.circuit.Inputs.{Inputs}
 use Rattle.board.specs.Joined.{equations_of}
-use Rattle.settle.specs.Runs.{power_up}
-use Rattle.steps.specs.Configs.{last_of}
+use Rattle.level_laws.specs.Runs.{power_up}
+use Rattle.settle.specs.Configs.{last_of}
 use Rattle.shown_runs.proofs.Sent.{nothing-part}
-use Rattle.shown_runs.proofs.Handed.{step-handed}
-use Rattle.shown_runs.proofs.Progressing.{on-way-begins, on-way-stepped, on-way-sent, on-way-breaks, on-way-ends}
+use Rattle.shown_runs.proofs.Progressing.{step-handed, on-way-begins, on-way-stepped, on-way-sent, on-way-breaks, on-way-ends}
 use Rattle.shown_runs.proofs.running.put_run.Goals as goal
 
 -- as many steps as were lent
@@ -22,7 +21,7 @@ pub returns-in_default-clause-sent : goal.returns-in_default-clause-sent
 returns-in_default-clause-sent g c =
     let b = c.args.board.now in
     let sent = g.O.Sink.sent c.args.out.now in
-    on-way-breaks b c.args.script.now 0 (power_up (equations_of b)) None (ports_line b.net.nets) sent sent sent Memory c.order-order.result.now c.order-order.ensures
+    on-way-breaks b c.args.script.now 0 (power_up (equations_of b)) None (ports_line b.net.nets) sent sent sent Memory c.begin.ensures.accepted
     (on-way-begins b c.args.script.now (power_up (equations_of b)) None (ports_line b.net.nets) sent refl refl refl) (nothing-part sent (ports_line b.net.nets))
 
 pub loop-inputs-init : goal.loop-inputs-init
@@ -36,8 +35,8 @@ loop-inputs-init g c = record {
 
 pub show_step-requires-clause-inputs : goal.show_step-requires-clause-inputs
 show_step-requires-clause-inputs g c =
-    step-handed c.args.board.now c.args.script.now.steps c.items-inputs-items.result.now c.loop-inputs.inputs-index c.inputs-item.result c.items.result.now c.requires c.items-inputs-items.ensures
-    c.loop-inputs-test.true c.inputs-item.is c.items.ensures
+    step-handed c.args.board.now c.args.script.now.steps c.items-inputs-items.result.now c.loop-inputs.inputs-index c.inputs-item.result c.requires c.items-inputs-items.ensures
+    c.loop-inputs-test.true c.inputs-item.is
 
 pub returns-in_err-show_step-clause-sent : goal.returns-in_err-show_step-clause-sent
 returns-in_err-show_step-clause-sent g c =
@@ -47,7 +46,7 @@ returns-in_err-show_step-clause-sent g c =
     let progress = c.loop-inputs.progress in
     subst (λ (r : Result (Unit {0}) PutError). PutsRun c.args.board.now c.args.script.now old mid r) (sym p.1)
     (on-way-breaks c.args.board.now c.args.script.now c.loop-inputs.inputs-index progress.config.stored (last_of progress.config) (string_bytes progress.text)
-    old mid mid p.0 c.order-order.result.now c.order-order.ensures c.loop-inputs.invariant.way (nothing-part mid (string_bytes progress.text)))
+    old mid mid p.0 c.begin.ensures.accepted c.loop-inputs.invariant.way (nothing-part mid (string_bytes progress.text)))
 
 pub returns-in_err-put_piece-clause-sent : goal.returns-in_err-put_piece-clause-sent
 returns-in_err-put_piece-clause-sent g c =
@@ -57,21 +56,21 @@ returns-in_err-put_piece-clause-sent g c =
     let after = g.O.Sink.sent c.put_piece.new.out in
     let old = c.loop-inputs.progress in
     let new = c.show_step.new.run in
-    let way = on-way-stepped c.args.board.now c.args.script.now c.items-inputs-items.result.now c.loop-inputs.inputs-index c.inputs-item.result c.items.result.now old.config.stored (last_of old.config)
+    let way = on-way-stepped c.args.board.now c.args.script.now c.items-inputs-items.result.now c.loop-inputs.inputs-index c.inputs-item.result old.config.stored (last_of old.config)
     new.config.stored (last_of new.config) new.config.levels (string_bytes old.text) (string_bytes new.text) sent mid c.loop-inputs.invariant.way c.items-inputs-items.ensures
-    c.loop-inputs-test.true c.inputs-item.is c.items.ensures c.show_step.ensures.step c.show_step.ensures.last c.show_step.ensures.settled c.in_ok-show_step.ensures.text in
+    c.loop-inputs-test.true c.inputs-item.is c.show_step.ensures.step c.show_step.ensures.last c.show_step.ensures.settled c.in_ok-show_step.ensures.text in
     subst (λ (r : Result (Unit {0}) PutError). PutsRun c.args.board.now c.args.script.now sent after r) (sym p.1)
     (on-way-breaks c.args.board.now c.args.script.now (c.loop-inputs.inputs-index + 1) new.config.stored (last_of new.config) (string_bytes new.text)
-    sent mid after p.0 c.order-order.result.now c.order-order.ensures way c.in_err-put_piece.ensures.sent)
+    sent mid after p.0 c.begin.ensures.accepted way c.in_err-put_piece.ensures.sent)
 
 pub loop-inputs-preserved : goal.loop-inputs-preserved
 loop-inputs-preserved g c =
     let mid = g.O.Sink.sent c.loop-inputs.out in
     let old = c.loop-inputs.progress in
     let new = c.show_step.new.run in
-    let way = on-way-stepped c.args.board.now c.args.script.now c.items-inputs-items.result.now c.loop-inputs.inputs-index c.inputs-item.result c.items.result.now old.config.stored (last_of old.config)
+    let way = on-way-stepped c.args.board.now c.args.script.now c.items-inputs-items.result.now c.loop-inputs.inputs-index c.inputs-item.result old.config.stored (last_of old.config)
     new.config.stored (last_of new.config) new.config.levels (string_bytes old.text) (string_bytes new.text) (g.O.Sink.sent c.args.out.now) mid c.loop-inputs.invariant.way c.items-inputs-items.ensures
-    c.loop-inputs-test.true c.inputs-item.is c.items.ensures c.show_step.ensures.step c.show_step.ensures.last c.show_step.ensures.settled c.in_ok-show_step.ensures.text in
+    c.loop-inputs-test.true c.inputs-item.is c.show_step.ensures.step c.show_step.ensures.last c.show_step.ensures.settled c.in_ok-show_step.ensures.text in
     record {
       made = c.show_step.ensures.made;
       places = c.show_step.ensures.places;

@@ -1,6 +1,6 @@
 use Rattle.std.proofs.Common.{ℕ, ◌≡◌, ◌⊎◌, List, [], ◌∷◌, ◌++◌, get_or, take, sym, subst, inl, inr}
 use Rattle.std.proofs.lemmas.List.{take_more}
-use Rattle.mig_base.specs.Accepted.{Among}
+use Rattle.mig_base.specs.Among.{Among}
 use Rattle.structure.proofs.NeededNodes.{among-at, among-last}
 use Rattle.structure.proofs.absorbing.is_port.Goals as goal
 

@@ -1,5 +1,5 @@
 use Rattle.std.proofs.Common.{take}
-use Rattle.mig_base.specs.Accepted.{Among}
+use Rattle.mig_base.specs.Among.{Among}
 use Rattle.structure.proofs.absorbing.is_port.Given as goal
 
 abbrev pub invariant-loop-port : goal.invariant-loop-port

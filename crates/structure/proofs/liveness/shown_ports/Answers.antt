@@ -1,5 +1,5 @@
 use Rattle.std.proofs.Common.{◌+◌, ◌∙◌, get_or, take, sym, subst}
-use Rattle.mig_base.specs.Accepted.{Among}
+use Rattle.mig_base.specs.Among.{Among}
 use Rattle.structure.specs.Waking.{HasPorts}
 use Rattle.structure.proofs.NeededNodes.{among-at, port-added, port-skipped}
 use Rattle.structure.proofs.liveness.shown_ports.Goals as goal

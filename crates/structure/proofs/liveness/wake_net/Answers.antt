@@ -1,6 +1,6 @@
 use Rattle.std.proofs.Common.{◌∙◌, Bool, List, false, get_or, sym, subst, ap}
 use Rattle.mig_base.specs.declared.circuit.Read.TheVariants.{OfNet}
-use Rattle.mig_base.specs.Accepted.{Among}
+use Rattle.mig_base.specs.Among.{Among}
 use Rattle.structure.specs.Live.{DrivesWire}
 use Rattle.structure.proofs.liveness.wake_net.Goals as goal
 

@@ -1,5 +1,5 @@
 use Rattle.std.proofs.Common.{◌≡◌, ◌≤◌, ◌^◌, ap, ◌∙◌, sym, arith, get_or, Some, ℕ, ◌*◌, ◌+◌, ◌-◌}
-use Rattle.mig_base.proofs.Numerals.{IsDigit}
+use Rattle.text_lines.proofs.Numerals.{IsDigit}
 use Rattle.text_lines.proofs.DigitSteps.{number-empty, number-long, number-other, number-digits, value-more, value-all, digit-at, power-low, power-more, some-bytes}
 use Rattle.text_lines.proofs.numbers.number.Goals as goal
 use Rattle.text_lines.proofs.numbers.number.Goals.{then-is_empty-via-then-is_empty, then-is_empty-via-else-is_empty+then-word-gt-MOST_DIGITS, then-is_empty-via-else-is_empty+else-word-gt-MOST_DIGITS+then-not-all_digits}

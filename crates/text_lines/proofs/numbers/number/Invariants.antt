@@ -1,6 +1,6 @@
 use Rattle.std.proofs.Common.{◌≡◌, ◌<◌, ◌^◌, take}
 use Rattle.mig_base.specs.Numbers.{in_base}
-use Rattle.mig_base.proofs.Numerals.{digit_values}
+use Rattle.text_lines.proofs.Numerals.{digit_values}
 use Rattle.text_lines.proofs.numbers.number.Given as goal
 
 abbrev pub invariant-loop-digit : goal.invariant-loop-digit

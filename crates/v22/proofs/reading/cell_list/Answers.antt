@@ -2,8 +2,8 @@ use Rattle.std.proofs.Common.{ℕ, ◌≡◌, ◌+◌, ◌-◌, ◌++◌, ◌∷
 use Rattle.mig_base.specs.declared.cells.Cell.{Cell}
 use Rattle.mig_base.specs.First.{made_from}
 use Rattle.mig_base.specs.Cells.{cell_22}
-use Rattle.array_rows.proofs.RowLemmas.{map-made_from-more}
-use Rattle.v22.proofs.V22Cells.{v22-table}
+use Rattle.devices.proofs.RowLemmas.{map-made_from-more}
+use Rattle.devices.proofs.V22Tables.{v22-table}
 use Rattle.v22.proofs.reading.cell_list.Goals as goal
 
 pub loop-pin-preserved : goal.loop-pin-preserved

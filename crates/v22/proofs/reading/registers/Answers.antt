@@ -2,8 +2,8 @@ use Rattle.std.proofs.Common.{ℕ, ◌≡◌, ◌+◌, ◌-◌, ◌++◌, ◌∷
 use Rattle.std.proofs.lemmas.List.{append-nil}
 use Rattle.mig_base.specs.First.{made_from}
 use Rattle.mig_base.specs.Cells.{s1_at}
-use Rattle.array_rows.proofs.RowLemmas.{filter-made_from-more}
-use Rattle.v22.proofs.V22Cells.{v22-table}
+use Rattle.devices.proofs.RowLemmas.{filter-made_from-more}
+use Rattle.devices.proofs.V22Tables.{v22-table}
 use Rattle.v22.proofs.reading.registers.Goals.{then-not-s1+in_ok-push, else-not-s1}
 use Rattle.v22.proofs.reading.registers.Goals as goal
 

@@ -4,7 +4,7 @@ use Rattle.mig_base.specs.declared.cells.Cell.{Cell}
 use Rattle.mig_base.specs.First.{made_from}
 use Rattle.mig_base.specs.Cells.{idle}
 use Rattle.mig_base.specs.WellFormed.{IsWellFormed}
-use Rattle.array_rows.proofs.RowLemmas.{map-made_from-more}
+use Rattle.devices.proofs.RowLemmas.{map-made_from-more}
 use Rattle.v22.proofs.Registers.{register, pin_row, idle_cells, register_cells, chip_of, registers-well}
 use Rattle.v22.proofs.tests.two_registers.Goals as goal
 

@@ -1,7 +1,7 @@
 use Rattle.std.proofs.Common.{◌≡◌, ◌++◌, map}
 use Rattle.std.specs.List.{flat_map}
 use Rattle.mig_base.specs.WrittenCells.{row_fuses}
-use Rattle.v22.specs.Written22.{rows_of_cell}
+use Rattle.mig_base.specs.Written22.{rows_of_cell}
 use Rattle.v22.proofs.writing.push_cells.Given as goal
 
 abbrev pub invariant-loop-cell : goal.invariant-loop-cell

@@ -1,6 +1,6 @@
 use Rattle.std.proofs.Common.{◌≡◌, ◌++◌, map}
 use Rattle.std.specs.List.{flat_map}
-use Rattle.v22.specs.Written22.{settings}
+use Rattle.mig_base.specs.Written22.{settings}
 use Rattle.v22.proofs.writing.push_settings.Given as goal
 
 abbrev pub invariant-loop-cell : goal.invariant-loop-cell

@@ -3,8 +3,8 @@ use Rattle.mig_base.specs.declared.cells.Cell.{Cell}
 use Rattle.mig_base.specs.First.{made_from}
 use Rattle.mig_base.specs.DeviceTables.{top_pin}
 use Rattle.mig_base.specs.Cells.{v8_cell}
-use Rattle.mig_base.proofs.MacrocellLaws.{v8-table}
-use Rattle.array_rows.proofs.RowLemmas.{map-made_from-more}
+use Rattle.devices.proofs.MacrocellLaws.{v8-table}
+use Rattle.devices.proofs.RowLemmas.{map-made_from-more}
 use Rattle.v8.proofs.reading.cell_list.Goals as goal
 
 pub loop-pin-preserved : goal.loop-pin-preserved

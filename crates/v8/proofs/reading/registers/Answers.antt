@@ -5,8 +5,8 @@ use Rattle.mig_base.specs.declared.kinds.Mode.TheVariants.{Registered}
 use Rattle.mig_base.specs.First.{made_from}
 use Rattle.mig_base.specs.DeviceTables.{top_pin}
 use Rattle.mig_base.specs.Cells.{ac1_at, v8_registers}
-use Rattle.mig_base.proofs.MacrocellLaws.{v8-table}
-use Rattle.array_rows.proofs.RowLemmas.{filter-made_from-more}
+use Rattle.devices.proofs.MacrocellLaws.{v8-table}
+use Rattle.devices.proofs.RowLemmas.{filter-made_from-more}
 use Rattle.v8.proofs.reading.registers.Goals.{then-not-ac1+in_ok-push, else-not-ac1}
 use Rattle.v8.proofs.reading.registers.Goals as goal
 

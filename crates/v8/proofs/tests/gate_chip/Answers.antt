@@ -4,7 +4,7 @@ use Rattle.mig_base.specs.declared.cells.Cell.{Cell}
 use Rattle.mig_base.specs.First.{made_from}
 use Rattle.mig_base.specs.Cells.{idle}
 use Rattle.mig_base.specs.WellFormed.{IsWellFormed}
-use Rattle.array_rows.proofs.RowLemmas.{map-made_from-more}
+use Rattle.devices.proofs.RowLemmas.{map-made_from-more}
 use Rattle.v8.proofs.Gate.{gate_cell, gate_lits, gate_cells, chip_of, gate-well}
 use Rattle.v8.proofs.tests.gate_chip.Goals as goal
 

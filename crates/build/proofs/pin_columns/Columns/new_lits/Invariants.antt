@@ -1,10 +1,9 @@
 use Rattle.std.proofs.Common.{◌≡◌, ◌++◌, drop}
 use Rattle.std.specs.List.{filter_map}
 use Rattle.new_board.specs.NewFiles.{new_lit}
-use Rattle.chip_pins.specs.Needed.{listed_literals}
 use Rattle.build.proofs.pin_columns.Columns.new_lits.Given as goal
 
 abbrev pub invariant-loop-lit : goal.invariant-loop-lit
 invariant-loop-lit l =
-    l.found.items ++ filter_map (new_lit l.self.nets.now.old.now l.self.nets.now.chip.now) (listed_literals l.self.nets.now.old.now.circuit (drop l.lit-index l.lits))
-    ≡ filter_map (new_lit l.self.nets.now.old.now l.self.nets.now.chip.now) (listed_literals l.self.nets.now.old.now.circuit l.lits)
+    l.found.items ++ filter_map (new_lit l.self.nets.now.old.now l.self.nets.now.chip.now) (drop l.lit-index l.lits)
+    ≡ filter_map (new_lit l.self.nets.now.old.now l.self.nets.now.chip.now) l.lits

@@ -5,7 +5,7 @@ use Rattle.equations.proofs.numbers.Numbers.wires.Goals as goal
 
 pub returns : goal.returns
 returns c =
-    let net = c.args.self.now.nets in
+    let net = c.args.self.now.nets.now in
     let units = c.args.self.now.units.now in
     let kinds = c.in_ok-kinds.kinds.items in
     let many : c.len.result ≡ length kinds = omega (arith, c.in_ok-kinds.kinds.ok.0) in

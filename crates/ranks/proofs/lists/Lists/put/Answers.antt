@@ -1,9 +1,9 @@
-use Rattle.std.proofs.Common.{◌++◌, ◌∷◌, [], List, sym, ap, subst, ◌∙◌, arith}
+use Rattle.std.proofs.Common.{List, sym, subst, arith}
 use Rattle.std.proofs.lemmas.List.{length-map}
-use Rattle.std.proofs.Math.ListN.{set, get_or}
+use Rattle.std.proofs.Math.ListN.{set}
 use Rattle.mig_base.specs.declared.circuit.Read.{Read}
 use Rattle.ranks.specs.Neighbours.{IsPut}
-use Rattle.ranks.proofs.Putting.{contents, contents-push, put-appended, put-nothing}
+use Rattle.ranks.proofs.Putting.{contents, contents-push, put-appended}
 use Rattle.ranks.proofs.lists.Lists.put.Goals as goal
 
 pub returns-in_ok-push : goal.returns-in_ok-push

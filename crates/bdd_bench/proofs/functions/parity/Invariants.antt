@@ -1,8 +1,0 @@
-use Rattle.bdd.specs.Diagram.{IsValid, Keeps}
-use Rattle.bdd_bench.proofs.functions.parity.Given as goal
-
-abbrev pub invariant-loop-above : goal.invariant-loop-above
-invariant-loop-above l = record {
-  keeps : Keeps l.fn.graph l.graph;
-  valid : IsValid l.graph l.f;
-}

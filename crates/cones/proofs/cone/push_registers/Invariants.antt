@@ -1,7 +1,0 @@
-use Rattle.std.proofs.Common.{◌≡◌, ◌++◌, filter, map, take}
-use Rattle.mig_base.specs.declared.nets.Var.TheVariants.{Reg}
-use Rattle.cones.specs.Marked.{is_named}
-use Rattle.cones.proofs.cone.push_registers.Given as goal
-
-abbrev pub invariant-loop-unit : goal.invariant-loop-unit
-invariant-loop-unit l = l.variables.items ≡ l.fn.variables.items ++ filter (is_named l.nets l.marks) (map Reg (take l.unit-index l.registers))

@@ -1,0 +1,4 @@
+pub mod Wirings
+pub mod AbsorbedLevels
+pub mod Fitting
+pub mod SettledValues

@@ -1,5 +1,0 @@
-use Rattle.joiner_bench.proofs.Rising.{Chosen}
-use Rattle.joiner_bench.proofs.units.absorbable_units.Given as goal
-
-abbrev pub invariant-loop-unit : goal.invariant-loop-unit
-invariant-loop-unit l = Chosen l.board l.unit l.absorbed.items

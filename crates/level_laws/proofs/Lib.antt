@@ -1,0 +1,11 @@
+pub mod Unique
+pub mod Exists
+pub mod OneRun
+pub mod OrderRanks
+pub mod RanksExist
+pub mod FollowsSame
+pub mod PureBits
+pub mod DriverUnits
+pub mod PureNodes
+pub mod PureSteps
+pub mod ClockLevels

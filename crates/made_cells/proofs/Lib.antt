@@ -1,0 +1,2 @@
+pub mod CellsFit
+pub mod MadeCells

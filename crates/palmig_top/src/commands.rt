@@ -1,0 +1,6 @@
+//! The commands.
+
+pub mod check;
+pub mod list;
+pub mod migrate;
+pub mod sim;

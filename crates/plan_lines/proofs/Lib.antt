@@ -1,0 +1,4 @@
+pub mod FirstSteps
+pub mod Names
+pub mod RuleSteps
+pub mod PlacedSteps

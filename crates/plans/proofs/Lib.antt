@@ -1,0 +1,4 @@
+pub mod Firsts
+pub mod Cones
+pub mod FormLaws
+pub mod BreachLaws

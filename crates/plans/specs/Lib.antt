@@ -1,0 +1,9 @@
+pub mod FirstOf
+pub mod Placings
+pub mod Forms
+pub mod LineBreaches
+pub mod UnitBreaches
+pub mod ChipBreaches
+pub mod Breaches
+pub mod Fitting
+pub mod Moves

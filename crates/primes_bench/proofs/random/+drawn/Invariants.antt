@@ -1,5 +1,0 @@
-use Rattle.std.proofs.Common.{◌-◌}
-use Rattle.primes_bench.proofs.random.+drawn.Given as goal
-
-abbrev pub decreases-drawn : goal.decreases-drawn
-decreases-drawn l = 12 - l.v

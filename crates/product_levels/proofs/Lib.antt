@@ -1,0 +1,3 @@
+pub mod SameProducts
+pub mod AliasLevels
+pub mod ProductLevels

@@ -1,4 +1,0 @@
-pub mod Bits
-pub mod Units
-pub mod Nodes
-pub mod Stepping

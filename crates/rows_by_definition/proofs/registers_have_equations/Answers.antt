@@ -1,7 +1,0 @@
-use Rattle.std.proofs.Common.{refl}
-use Rattle.rows_by_definition.specs.TwoRegisters.{wiring, chip, equations}
-use Rattle.rows_by_definition.proofs.registers_have_equations.Goals as goal
-
-pub returns : goal.returns
-unfolding wiring chip equations
-returns c = refl

@@ -1,7 +1,0 @@
-use Rattle.std.proofs.Common.{◌≡◌, take}
-use Rattle.std.specs.List.{filter_map}
-use Rattle.script_text.specs.Statements.{slot_level}
-use Rattle.script_text.proofs.levels.inputs.Given as goal
-
-abbrev pub invariant-loop-slot : goal.invariant-loop-slot
-invariant-loop-slot l = l.given.items ≡ filter_map (slot_level l.levels) (take l.slot-index l.slots)

@@ -1,3 +1,0 @@
-pub mod ScriptText
-pub mod Statements
-pub mod WrittenScript

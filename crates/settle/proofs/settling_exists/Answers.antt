@@ -1,5 +1,0 @@
-use Rattle.settle.proofs.Exists.{settling, settled-exists}
-use Rattle.settle.proofs.settling_exists.Goals as goal
-
-pub returns : goal.returns
-returns c = λ b rank top stored inputs ranked. (settling b top stored inputs, settled-exists b rank top stored inputs ranked)

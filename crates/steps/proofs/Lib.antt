@@ -1,4 +1,0 @@
-pub mod LevelLaws
-pub mod OrderLaws
-pub mod StepLaws
-pub mod OrderRanks
