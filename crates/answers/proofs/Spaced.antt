@@ -1,8 +1,7 @@
 -- Lines of words, piece by piece.
-use Rattle.std.proofs.Common.{ℕ, ◌≡◌, Bool, true, false, cond, List, [], ◌∷◌, ◌++◌, map, filter, refl, sym, ap, ◌∙◌}
+use Rattle.std.proofs.Common.{ℕ, ◌≡◌, Bool, true, false, cond, List, [], ◌∷◌, ◌++◌, map, filter, refl, ap, ◌∙◌}
 use Rattle.std.specs.Prelude.{codes}
-use Rattle.std.specs.List.{flat_map, join_with_byte}
-use Rattle.std.proofs.lemmas.List.{append-nil}
+use Rattle.std.specs.List.{flat_map}
 use Rattle.mig_base.specs.declared.nets.NetLine.{NetLine}
 use Rattle.mig_base.specs.declared.nets.Node.{Node}
 use Rattle.mig_base.specs.Boards.{is_port}
@@ -10,6 +9,7 @@ use Rattle.mig_base.specs.WrittenBoard.{written_line}
 use Rattle.std.specs.Fmt.{decimal}
 use Rattle.std.proofs.Common.{append_assoc}
 use Rattle.answers.specs.Reports.{node_text, ports_line, accepted_line}
+use Rattle.text_lines.proofs.PlainWords.{spaced}
 
 -- a space and the name of a port
 abbrev pub port_text : NetLine → List ℕ
@@ -18,11 +18,6 @@ port_text l = cond (is_port l) (32 ∷ l.name) []
 -- a space and the name of a node
 abbrev pub next_node : Node → List ℕ
 next_node v = 32 ∷ node_text v
-
--- words behind a first one, each with a space before it
-spaced : (word : List ℕ) (words : List (List ℕ)) → join_with_byte 32 (word ∷ words) ≡ word ++ flat_map (λ w. 32 ∷ w) words
-spaced word [] = sym (append-nil word)
-spaced word (w ∷ words) = ap (λ (bs : List ℕ). word ++ 32 ∷ bs) (spaced w words)
 
 names-text : (nets : List NetLine) → flat_map (λ w. 32 ∷ w) (map (λ l. l.name) (filter is_port nets)) ≡ flat_map port_text nets
 names-text [] = refl

@@ -8,13 +8,12 @@ use Rattle.mig_base.specs.declared.circuit.NetKind.{NetKind}
 use Rattle.mig_base.specs.declared.circuit.Wire.{Wire}
 use Rattle.mig_base.specs.declared.cells.ChipCells.{ChipCells}
 use Rattle.mig_base.specs.declared.nets.Net.{Net}
-use Rattle.mig_base.specs.declared.nets.NetLine.{NetLine}
 use Rattle.mig_base.specs.declared.nets.Pull.{Pull}
 use Rattle.mig_base.specs.declared.nets.Pull.TheVariants.{Free}
 use Rattle.mig_base.specs.declared.circuit.NetKind.TheVariants.{Inner}
 use Rattle.mig_base.specs.Accepted.{IsAccepted, is_fixed}
-use Rattle.mig_base.specs.Boards.{At, ChipUnit, circuit, is_handed, kinds_from, kinds_of, privates, units_from, wires_from}
-use Rattle.std.specs.Prelude.{if◌then◌else◌}
+use Rattle.mig_base.specs.Boards.{At, ChipUnit, circuit, kinds_from, kinds_of, privates, units_from, wires_from}
+use Rattle.mig_base.proofs.PlaceLaws.{length-kinds_from}
 use Rattle.equations.proofs.PrivatePins.{privates-few}
 use Rattle.ranks.specs.declared.Ranks.{Ranks}
 use Rattle.ranks.specs.RankEquations.{rank_in}
@@ -48,15 +47,11 @@ length-wires : (net : Net) (units : List ChipUnit) (n : ℕ) (ks : List (NetKind
 length-wires net units n [] = refl
 length-wires net units n (k ∷ ks) = ap suc (length-wires net units (n + 1) ks)
 
-length-kinds : (place : ℕ) (ls : List NetLine) → length (kinds_from place ls) ≡ length ls
-length-kinds place [] = refl
-length-kinds place (l ∷ ls) = ap suc (length-kinds (if is_handed l.port then place + 1 else place) ls)
-
 pub nets-few : (net : Net) (chips : List ChipCells) → length net.nets ≤ 1024 → length net.chips ≤ 64 → length (circuit net chips).nets < 2 ^ 32
 nets-few net chips h k =
     let private : At → NetKind × Pull = λ q. (Inner, Free) in
     let wires : length (circuit net chips).nets ≡ length (kinds_of net) = length-wires net (units_from 0 chips) 0 (kinds_of net) in
-    omega (arith, wires, length-append (kinds_from 0 net.nets) (map private (privates net)), length-kinds 0 net.nets, length-map (privates net) private, privates-few net)
+    omega (arith, wires, length-append (kinds_from 0 net.nets) (map private (privates net)), length-kinds_from 0 net.nets, length-map (privates net) private, privates-few net)
 
 pub equations-few : (net : Net) (chips : List ChipCells) (c : Circuit) → c ≡ circuit net chips → length net.nets ≤ 1024 → length net.chips ≤ 64 → length c.nets < 2 ^ 32
 equations-few net chips c e h k = let few = nets-few net chips h k in omega (arith, ap (λ (d : Circuit). length d.nets) e, few)

@@ -13,7 +13,7 @@ use Rattle.mig_base.specs.declared.nets.Var.{Var}
 use Rattle.mig_base.specs.declared.nets.Var.TheVariants.{Net, Reg}
 use Rattle.mig_base.specs.Accepted.{IsAccepted}
 use Rattle.mig_base.specs.Boards.{ChipUnit, circuit, driver_of, is_registered, register_of, registers_of, units_from}
-use Rattle.mig_base.proofs.ListLaws.{get_or-made_from}
+use Rattle.mig_base.proofs.ListLaws.{get_or-made_from, length-made_from}
 use Rattle.ranks.specs.declared.Ranks.{Ranks}
 use Rattle.ranks.specs.Order.{IsOrder}
 use Rattle.mig_base.specs.Reads.{IsNode}
@@ -34,7 +34,6 @@ use Rattle.board.specs.Joined.{Joined, equations_of}
 use Rattle.board.specs.UnitLists.{has_register, register_units, units_on}
 use Rattle.board.specs.Variables.{IsVariable, read_of, register_place, var_of}
 use Rattle.board.proofs.AcceptedLaws.{passed-accepted}
-use Rattle.board.proofs.ListSteps.{made-length}
 use Rattle.board.proofs.PlaceLaws.{HasPlace, HasUnit, IsNamed, has-place, has-unit, unit-named}
 use Rattle.board.proofs.UnitLaws.{length-places, length-units}
 
@@ -95,7 +94,7 @@ pub place-within : (net : Wiring) (chips : List ChipCells) (t : Tables) (u : ℕ
 place-within net chips t u is h =
     let x = registered-unit (slice_get (units_from 0 chips) u) h in
     let within : u < length (units_from 0 chips) = slice_get_within (units_from 0 chips) u x.0 x.1 in
-    let long : length t.places ≡ length (units_from 0 chips) = ap length is.places ∙ made-length (register_place chips) 0 (length (units_from 0 chips)) in
+    let long : length t.places ≡ length (units_from 0 chips) = ap length is.places ∙ length-made_from (register_place chips) 0 (length (units_from 0 chips)) in
     omega arith
 
 pub place-is : (net : Wiring) (chips : List ChipCells) (t : Tables) (u d : ℕ) → IsTables net chips t → has_register (slice_get (units_from 0 chips) u) ≡ true → get_or t.places u d ≡ register_place chips u

@@ -1,5 +1,5 @@
 -- A unit drives one net at most, which is that of its pin.
-use Rattle.std.proofs.Common.{ℕ, zero, suc, ◌≡◌, ◌⊎◌, ◌<◌, ◌≤◌, ◌+◌, Bool, true, false, cond, List, [], ◌∷◌, ◌++◌, length, get_or, Option, Some, None, refl, sym, ap, ◌∙◌, subst, inl, inr, arith, eqb, eqb-true}
+use Rattle.std.proofs.Common.{ℕ, zero, suc, ◌≡◌, ◌<◌, ◌+◌, Bool, true, List, [], ◌∷◌, length, get_or, Option, Some, None, refl, sym, ap, ◌∙◌, subst, arith, eqb, eqb-true}
 use Rattle.std.specs.Prelude.{slice_get}
 use Rattle.std.specs.List.{zip}
 use Rattle.std.proofs.lemmas.Bool.{and_parts}
@@ -12,30 +12,14 @@ use Rattle.mig_base.specs.declared.nets.Net.{Net}
 use Rattle.mig_base.specs.declared.nets.Pull.{Pull}
 use Rattle.mig_base.specs.Among.{Among}
 use Rattle.mig_base.specs.Boards.{ChipUnit, at_of, can_drive, circuit, circuit_on, driver_of, drives, kinds_of, net_of, places_from, units_from, wires_from}
+use Rattle.mig_base.proofs.PlaceLaws.{passes-at}
+use Rattle.mig_base.proofs.ListLaws.{item-at}
 use Rattle.structure.specs.Live.{DrivesWire}
 use Rattle.board.specs.declared.Unit.{Unit as NamedUnit}
 use Rattle.board.specs.Enables.{drivers_of}
 use Rattle.board.specs.UnitLists.{cell_places, unit_on, units_on}
-use Rattle.board.proofs.ListSteps.{some-at}
 use Rattle.board.proofs.PlaceLaws.{zip-firsts}
 use Rattle.board.proofs.UnitLaws.{length-cells, length-zip}
-
--- a place among those that pass
-record Passes {T : Type 0} (test : T → Bool) (i : ℕ) (xs : List T) (u : ℕ) : Type 0 where
-  pub place : ℕ
-  pub number : u ≡ i + place
-  pub item : T
-  pub is : slice_get xs place ≡ Some item
-  pub passes : test item ≡ true
-
-passes-at : {T : Type 0} (test : T → Bool) (i : ℕ) (xs : List T) (u : ℕ) → Among u (places_from test i xs) → Passes test i xs u
-passes-at test i [] u a = absurd a
-passes-at {T} test i (x ∷ xs) u a = at (test x) refl a (passes-at test (i + 1) xs u)
-  where
-    at : (q : Bool) → test x ≡ q → Among u (cond q (i ∷ []) [] ++ places_from test (i + 1) xs) → (Among u (places_from test (i + 1) xs) → Passes test (i + 1) xs u) → Passes test i (x ∷ xs) u
-    at true is (inl e) later = record { place = 0; number = let n : i ≡ i + 0 = omega arith in e ∙ n; item = x; is = refl; passes = is }
-    at true is (inr m) later = let r = later m in record { place = suc r.place; number = let n : i + 1 + r.place ≡ i + suc r.place = omega arith in r.number ∙ n; item = r.item; is = r.is; passes = r.passes }
-    at false is m later = let r = later m in record { place = suc r.place; number = let n : i + 1 + r.place ≡ i + suc r.place = omega arith in r.number ∙ n; item = r.item; is = r.is; passes = r.passes }
 
 wires-drivers : (net : Net) (units : List ChipUnit) (n : ℕ) (ks : List (NetKind × Pull)) (m u : ℕ) → DrivesWire u (slice_get (wires_from net units n ks) m) → Among u (places_from (drives net units (n + m)) 0 units)
 wires-drivers net units n [] m u a = absurd a
@@ -77,7 +61,7 @@ named-net net chips u r h e =
     let pairs : List (ChipUnit × ℕ) = zip (units_from 0 chips) (cell_places chips) in
     let long : length pairs ≡ length (units_from 0 chips) = length-zip (units_from 0 chips) (cell_places chips) (length-cells 0 chips) in
     let within : u < length pairs = omega arith in
-    let found = some-at pairs u within in
+    let found = item-at pairs u within in
     let p : ChipUnit × ℕ = found.0 in
     let at : get_or pairs u p ≡ p = get_or_from_slice_get pairs u p p found.1 in
     let is : r ≡ unit_on net p = e ∙ get_or-map (unit_on net) pairs u p r within ∙ ap (unit_on net) at in

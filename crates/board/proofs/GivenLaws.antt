@@ -5,7 +5,7 @@ use Rattle.mig_base.specs.declared.nets.ChipLine.{ChipLine}
 use Rattle.mig_base.specs.declared.nets.Net.{Net}
 use Rattle.mig_base.specs.Given.{AreMade, IsGiven, IsMade}
 
-made-long : (lines : List ChipLine) (chips : List ChipCells) → AreMade lines chips → length chips ≡ length lines
+pub made-long : (lines : List ChipLine) (chips : List ChipCells) → AreMade lines chips → length chips ≡ length lines
 made-long [] [] made = refl
 made-long [] (c ∷ cs) made = absurd made
 made-long (line ∷ lines) [] made = absurd made

@@ -1,15 +1,15 @@
 -- Steps of loops over lists, tables that are made, and the first item that passes.
-use Rattle.std.proofs.Common.{ℕ, zero, suc, ◌≡◌, ◌<◌, ◌≤◌, ◌+◌, ◌*◌, Bool, true, false, not, ltb, List, [], ◌∷◌, ◌++◌, drop, length, get_or, Some, None, refl, sym, ap, ◌∙◌, arith, add-zero}
+use Rattle.std.proofs.Common.{ℕ, zero, suc, ◌≡◌, ◌<◌, ◌≤◌, ◌+◌, ◌*◌, Bool, true, false, not, ltb, List, [], ◌∷◌, ◌++◌, drop, length, get_or, Some, None, refl, sym, ap, ◌∙◌, arith}
 use Rattle.std.specs.Prelude.{◌/◌, ◌%◌, slice_get, if◌then◌else◌}
 use Rattle.std.specs.List.{zip, position, position_or_len}
-use Rattle.std.proofs.lemmas.Bool.{ltb-false}
+use Rattle.std.proofs.lemmas.Bool.{ltb-false, not-true}
 use Rattle.std.proofs.lemmas.List.{drop_more}
 use Rattle.std.proofs.lemmas.List.Sums.{prefix_len_passes}
 use Rattle.std.proofs.lemmas.Option.{slice_get-get_or, get_or_from_slice_get, slice_get_within}
 use Rattle.equations.specs.Tables.{IsTable}
 use Rattle.mig_base.specs.Boards.{At}
 use Rattle.mig_base.specs.First.{made_from}
-use Rattle.mig_base.proofs.ListLaws.{get_or-made_from, not-true}
+use Rattle.mig_base.proofs.ListLaws.{get_or-made_from, length-made_from, made_from-more}
 
 pub zip-next : {X Y : Type 0} (xs : List X) (ys : List Y) (i : ℕ) (x : X) (y : Y) → i < length xs → i < length ys → x ≡ get_or xs i x → y ≡ get_or ys i y →
     zip (drop i xs) (drop i ys) ≡ (x, y) ∷ zip (drop (i + 1) xs) (drop (i + 1) ys)
@@ -18,17 +18,6 @@ zip-next {X} {Y} xs ys i x y h k e f =
     ap (λ (left : List X). zip left (drop i ys)) (drop_more xs i x h)
     ∙ ap (λ (right : List Y). zip (get_or xs i x ∷ drop (i + 1) xs) right) (drop_more ys i y k)
     ∙ ap (λ (a : X). (a, get_or ys i y) ∷ rest) (sym e) ∙ ap (λ (b : Y). (x, b) ∷ rest) (sym f)
-
-pub made_from-more : {T : Type 0} (f : ℕ → T) (first n m : ℕ) → m ≡ n + 1 → made_from f first m ≡ made_from f first n ++ f (first + n) ∷ []
-made_from-more f first zero m e = ap (made_from f first) e ∙ ap (λ k. f k ∷ []) (sym (add-zero first))
-made_from-more f first (suc n) m e =
-    let k : m ≡ suc (n + 1) = omega arith in
-    let s : first + 1 + n ≡ first + suc n = omega arith in
-    ap (made_from f first) k ∙ ap (λ rest. f first ∷ rest) (made_from-more f (first + 1) n (n + 1) refl ∙ ap (λ j. made_from f (first + 1) n ++ f j ∷ []) s)
-
-pub made-length : {T : Type 0} (f : ℕ → T) (a n : ℕ) → length (made_from f a n) ≡ n
-made-length f a zero = refl
-made-length f a (suc n) = ap suc (made-length f (a + 1) n)
 
 -- lists made of equal values are equal
 pub made-same : {T : Type 0} (f g : ℕ → T) (a n : ℕ) → ((j : ℕ) → f j ≡ g j) → made_from f a n ≡ made_from g a n
@@ -48,23 +37,17 @@ at_place i = (i / 256, i % 256)
 -- a table of 256 entries a chip, made place by place
 pub table-made : {T : Type 0} (f : At → T) (chips n : ℕ) → n ≡ 256 * chips → IsTable f chips (made_from (λ i. f (at_place i)) 0 n)
 table-made {T} f chips n e = record {
-  size = made-length (λ i. f (at_place i)) 0 n ∙ e;
+  size = length-made_from (λ i. f (at_place i)) 0 n ∙ e;
   gives = λ chip pin h k.
       let place : ℕ = 256 * chip + pin in
       let inside : place < n = omega arith in
-      let within : place < length (made_from (λ i. f (at_place i)) 0 n) = rw (made-length (λ i. f (at_place i)) 0 n) inside in
+      let within : place < length (made_from (λ i. f (at_place i)) 0 n) = rw (length-made_from (λ i. f (at_place i)) 0 n) inside in
       let of_chip : (0 + place) / 256 ≡ chip = omega arith in
       let of_pin : (0 + place) % 256 ≡ pin = omega arith in
       slice_get-get_or (made_from (λ i. f (at_place i)) 0 n) place (f (chip, pin)) within
       ∙ ap Some (get_or-made_from (λ i. f (at_place i)) 0 n place (f (chip, pin)) inside
       ∙ ap (λ (j : ℕ). f (j, (0 + place) % 256)) of_chip ∙ ap (λ (p : ℕ). f (chip, p)) of_pin);
 }
-
--- an item at a place within a list
-pub some-at : {X : Type 0} (xs : List X) (i : ℕ) → i < length xs → (x : X) × (slice_get xs i ≡ Some x)
-some-at [] i h = absurd (omega arith)
-some-at (x ∷ xs) zero h = (x, refl)
-some-at (x ∷ xs) (suc i) h = some-at xs i (omega arith)
 
 -- no item passes where none is the first that passes
 pub none-passes : {X : Type 0} (p : X → Bool) (xs : List X) (n : ℕ) (x : X) → position p xs ≡ None → slice_get xs n ≡ Some x → p x ≡ false

@@ -3,15 +3,14 @@ use Rattle.std.proofs.Common.{ℕ, zero, suc, ◌≡◌, ◌<◌, ◌+◌, Bool,
 use Rattle.std.specs.Prelude.{slice_get, if◌then◌else◌}
 use Rattle.std.specs.List.{zip, AllByRecursion}
 use Rattle.std.proofs.lemmas.List.{get_or-map, length-map}
-use Rattle.std.proofs.lemmas.Option.{get_or_from_slice_get}
+use Rattle.std.proofs.lemmas.Option.{get_or_from_slice_get, same_Some}
 use Rattle.mig_base.specs.declared.cells.Cell.{Cell}
 use Rattle.mig_base.specs.declared.cells.ChipCells.{ChipCells}
 use Rattle.mig_base.specs.declared.nets.Net.{Net}
 use Rattle.mig_base.specs.Boards.{ChipUnit, is_unit, places_from, units_from}
-use Rattle.mig_base.proofs.ListLaws.{all-append, all-at}
+use Rattle.mig_base.proofs.ListLaws.{all-append, all-at, item-at}
 use Rattle.board.specs.declared.Unit.{Unit as NamedUnit}
 use Rattle.board.specs.UnitLists.{cell_places, unit_on, units_on}
-use Rattle.board.proofs.ListSteps.{some-at}
 use Rattle.board.proofs.UnitLaws.{length-places, length-cells, length-zip}
 
 -- a unit and the place of its cell, on a board of these chips
@@ -71,7 +70,7 @@ unit-named net chips u r h e =
     let pairs : List (ChipUnit × ℕ) = zip (units_from 0 chips) (cell_places chips) in
     let long : length pairs ≡ length (units_from 0 chips) = length-zip (units_from 0 chips) (cell_places chips) (length-cells 0 chips) in
     let within : u < length pairs = omega arith in
-    let found = some-at pairs u within in
+    let found = item-at pairs u within in
     let p : ChipUnit × ℕ = found.0 in
     let at : get_or pairs u p ≡ p = get_or_from_slice_get pairs u p p found.1 in
     let placed : IsPlaced chips p = subst (IsPlaced chips) at (all-at (IsPlaced chips) pairs u p (units-placed chips 0 chips (λ k. let n : 0 + k ≡ k = omega arith in ap (slice_get chips) n)) within) in
@@ -89,9 +88,6 @@ pub record HasPlace {T : Type 0} (test : T → Bool) (i u : ℕ) (xs : List T) :
   pub within : length (filter test (take u xs)) < length (filter test xs)
   pub at : get_or (places_from test i xs) (length (filter test (take u xs))) 0 ≡ i + u
 
-same-item : {T : Type 0} (a b : T) → Some a ≡ Some b → a ≡ b
-same-item a b e = cc
-
 here : {T : Type 0} (test : T → Bool) (i : ℕ) (y : T) (ys : List T) (b : Bool) → test y ≡ b → b ≡ true → HasPlace test i zero (y ∷ ys)
 here test i y ys true e t = record { within = rw e (omega arith); at = rw e (omega arith) }
 here test i y ys false e t = cc
@@ -102,7 +98,7 @@ later test i u y ys false e h = record { within = rw e h.within; at = rw e (let 
 
 pub has-place : {T : Type 0} (test : T → Bool) (i u : ℕ) (xs : List T) (x : T) → slice_get xs u ≡ Some x → test x ≡ true → HasPlace test i u xs
 has-place test i u [] x e h = cc
-has-place test i zero (y ∷ ys) x e h = here test i y ys (test y) refl (ap test (same-item y x e) ∙ h)
+has-place test i zero (y ∷ ys) x e h = here test i y ys (test y) refl (ap test (same_Some y x e) ∙ h)
 has-place test i (suc u) (y ∷ ys) x e h = later test i u y ys (test y) refl (has-place test (i + 1) u ys x e h)
 
 -- the unit of each place among those that pass

@@ -1,5 +1,5 @@
 -- The variables of a board: its nets, and its registers by the numbers of their units.
-use Rattle.std.specs.Prelude.{ℕ, ◌≡◌, ◌<◌, true, List, length, map, take, slice_get, slice_index_or}
+use Rattle.std.specs.Prelude.{ℕ, ◌≡◌, ◌<◌, true, List, length, map, take, slice_get}
 use Rattle.mig_base.specs.declared.cells.ChipCells.{ChipCells}
 use Rattle.mig_base.specs.declared.circuit.Circuit.{Circuit}
 use Rattle.mig_base.specs.declared.circuit.Read.{Read}
@@ -7,6 +7,7 @@ use Rattle.mig_base.specs.declared.circuit.Read.TheVariants.{OfNet, OfRegister}
 use Rattle.mig_base.specs.declared.nets.Var.{Var}
 use Rattle.mig_base.specs.declared.nets.Var.TheVariants.{Net, Reg}
 use Rattle.mig_base.specs.Boards.{registers_of, units_from}
+use Rattle.structure.specs.Products.{var_by}
 use Rattle.ranks.specs.declared.Ranks.{Ranks}
 use Rattle.ranks.specs.RankEquations.{IsRanks, rank_in}
 use Rattle.board.specs.Joined.{Joined, equations_of}
@@ -20,11 +21,6 @@ register_place chips u = length (registers_of (take u (units_from 0 chips)))
 abbrev pub read_of : List ChipCells → Var → Read
 read_of chips (Net n) = OfNet n
 read_of chips (Reg u) = OfRegister (register_place chips u)
-
--- the variable of a node, where the registers have these units
-abbrev pub var_by : List ℕ → Read → Var
-var_by units (OfNet n) = Net n
-var_by units (OfRegister k) = Reg (slice_index_or units k 0)
 
 -- the variable of a node
 abbrev pub var_of : List ChipCells → Read → Var

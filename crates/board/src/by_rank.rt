@@ -1,5 +1,5 @@
 ghost use Rattle.std.specs.Prelude.{◌≡◌, map, IfOk};
-ghost use Rattle.board.specs.Variables.{var_by};
+ghost use Rattle.structure.specs.Products.{var_by};
 
 use mig_base::{Items, NoMemory, Read, Var};
 use std::alloc::Global;

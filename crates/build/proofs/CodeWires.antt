@@ -1,5 +1,5 @@
 -- The kept nets are no more than the named ones, and the new chips no more than the old ones.
-use Rattle.std.proofs.Common.{ℕ, ◌≡◌, ◌≤◌, ◌+◌, Bool, true, false, cond, List, [], ◌∷◌, ◌++◌, length, refl, arith, length-append}
+use Rattle.std.proofs.Common.{ℕ, ◌≡◌, ◌≤◌, ◌+◌, List, [], ◌∷◌, length, refl, arith, length-append}
 use Rattle.std.specs.Prelude.{filter, not}
 use Rattle.std.specs.List.{list_any}
 use Rattle.std.proofs.lemmas.List.Filters.{length-filter_both}
@@ -7,25 +7,17 @@ use Rattle.mig_base.specs.declared.nets.Net.{Net}
 use Rattle.mig_base.specs.declared.nets.ChipLine.{ChipLine}
 use Rattle.mig_base.specs.declared.cells.ChipCells.{ChipCells}
 use Rattle.mig_base.specs.Boards.{is_port, places_from}
+use Rattle.mig_base.proofs.PlaceLaws.{places-count}
 use Rattle.new_board.specs.declared.types.FittedChip.{FittedChip}
 use Rattle.new_board.specs.NewFiles.{kept_numbers, stands_on}
 use Rattle.new_board.specs.NewChip.{OldBoard}
 use Rattle.new_board.specs.OneForOne.{same_chips_from}
 
-places-split : {T : Type 0} (p : T → Bool) (i : ℕ) (xs : List T) → length (places_from p i xs) + length (places_from (λ x. not (p x)) i xs) ≡ length xs
-places-split p i [] = refl
-places-split {T} p i (x ∷ xs) = at (p x) (places-split p (i + 1) xs)
-  where
-    at : (q : Bool) → length (places_from p (i + 1) xs) + length (places_from (λ y. not (p y)) (i + 1) xs) ≡ length xs →
-        length (cond q (i ∷ []) [] ++ places_from p (i + 1) xs) + length (cond (not q) (i ∷ []) [] ++ places_from (λ y. not (p y)) (i + 1) xs) ≡ length (x ∷ xs)
-    at true e = omega arith
-    at false e = omega arith
-
 pub kept-few : (net : Net) (chips : List FittedChip) → length (kept_numbers net chips) ≤ length net.nets
 kept-few net chips =
     let stands = λ (n : ℕ). list_any (stands_on n) chips in
     let inner = places_from (λ l. not (is_port l)) 2 net.nets in
-    let split = places-split is_port 2 net.nets in
+    let split = places-count is_port 2 net.nets in
     let few = length-filter_both stands (λ n. not (stands n)) (λ n. refl) inner in
     let whole : length (kept_numbers net chips) ≡ length (places_from is_port 2 net.nets) + length (filter stands inner) = length-append (places_from is_port 2 net.nets) (filter stands inner) in
     omega arith

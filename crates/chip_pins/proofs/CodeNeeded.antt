@@ -4,11 +4,11 @@ use Rattle.std.specs.Prelude.{filter}
 use Rattle.std.specs.List.{list_any}
 use Rattle.std.proofs.Math.ListN.{get_or}
 use Rattle.std.proofs.lemmas.List.{take_more, map-append}
+use Rattle.std.proofs.Math.Bool.{or-false}
 use Rattle.mig_base.specs.declared.circuit.Read.{Read}
 use Rattle.mig_base.specs.declared.circuit.Literal.{Literal}
 use Rattle.mig_base.specs.declared.circuit.Circuit.{Circuit}
 use Rattle.mig_base.specs.Structure.{same_read, all_variables}
-use Rattle.mig_base.proofs.ListLaws.{or-unit}
 use Rattle.new_board.specs.NewChip.{NewChip, chip_products, needed_variables}
 use Rattle.chip_pins.specs.Needed.{are_read, reads_variable, AddsSources, AddsProducts}
 
@@ -35,7 +35,7 @@ sources-read (x ∷ xs) v = at (same_read x.source v) (sources-read xs v)
 
 pub adds-product : (lits : List Literal) (before after : List Read) → AddsSources before after (map (λ x. x.source) lits) → AddsProducts before after (lits ∷ [])
 adds-product lits before after added = record {
-  each = λ v. added.each v ∙ ap (λ (q : Bool). are_read before v || q) (sources-read lits v ∙ sym (or-unit (reads_variable v lits)));
+  each = λ v. added.each v ∙ ap (λ (q : Bool). are_read before v || q) (sources-read lits v ∙ sym (or-false (reads_variable v lits)));
 }
 
 -- a variable that was not there

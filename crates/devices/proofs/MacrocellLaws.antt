@@ -2,7 +2,8 @@
 use Rattle.std.proofs.Common.{ℕ, zero, suc, ◌≡◌, ◌+◌, ◌-◌, ◌*◌, ◌<◌, ◌≤◌, Bool, true, false, not, ◌||◌, ◌&&◌, if◌then◌else◌, List, [], ◌∷◌, ◌++◌, map, replicate, length, refl, sym, ap, ◌∙◌, subst, arith, IsTrue, eq-eqb}
 use Rattle.std.specs.List.{AllByRecursion}
 use Rattle.std.proofs.lemmas.List.{length-append, length-map, length-replicate}
-use Rattle.std.proofs.lemmas.Bool.{eqb-true, lt-ltb}
+use Rattle.std.proofs.lemmas.Bool.{eqb-true, lt-ltb, not-true}
+use Rattle.std.proofs.Math.Bool.{not-not}
 use Rattle.mig_base.specs.declared.kinds.Kind.{Kind}
 use Rattle.mig_base.specs.declared.kinds.Kind.TheVariants.{Gal16V8, Gal20V8}
 use Rattle.mig_base.specs.declared.kinds.Mode.{Mode}
@@ -21,7 +22,7 @@ use Rattle.mig_base.specs.Cells as cells
 use Rattle.mig_base.specs.Cells.{is_among}
 use Rattle.mig_base.specs.WellFormed.{has_mode, is_reg, is_simple, is_registered, is_never, is_low_pin, has_enable_row, FitsCell, has_form, has_enable, has_inversions, most_terms, fits_row}
 use Rattle.mig_base.specs.WrittenCells.{enable_rows, filled, cell_rows, xor_fuse, ac1_fuse}
-use Rattle.mig_base.proofs.ListLaws.{and-right, or-left, not-true, not-twice, all-append}
+use Rattle.mig_base.proofs.ListLaws.{and-right, or-left, all-append}
 use Rattle.devices.proofs.RowLaws.{IsDistinct, FitsColumns, distinct_pins, columns-distinct, length-columns}
 
 -- what the tables of a GAL16V8 or GAL20V8 hold
@@ -91,7 +92,7 @@ idle-is pin false false (enable.LowPin p) terms i e n = cc
 pub comb-terms : (pin : ℕ) (low : Bool) (e : Enable) (terms : List (List Lit)) (n : ℕ) →
     cell_with pin form.Comb (not (not low)) false e (cells.terms_of (map (λ (lits : List Lit). row.Product lits) terms ++ replicate n row.Never)) ≡ cell_with pin form.Comb low false e terms
 comb-terms pin low e terms n =
-    ap (λ (b : Bool). cell_with pin form.Comb b false e (cells.terms_of (map (λ (lits : List Lit). row.Product lits) terms ++ replicate n row.Never))) (not-twice low)
+    ap (λ (b : Bool). cell_with pin form.Comb b false e (cells.terms_of (map (λ (lits : List Lit). row.Product lits) terms ++ replicate n row.Never))) (not-not low)
     ∙ ap (cell_with pin form.Comb low false e) (terms-read terms n)
 
 -- a combinational cell with an enable row

@@ -10,18 +10,15 @@ use Rattle.mig_base.specs.Cells.{lits_of, row_of}
 use Rattle.mig_base.specs.Bools.{same_bool}
 use Rattle.mig_base.specs.WellFormed.{same_source, same_lit, rises_in}
 use Rattle.mig_base.specs.WrittenCells.{has_lit}
+use Rattle.mig_base.proofs.ReadLaws.{same-bool}
 use Rattle.devices.proofs.RowLaws.{IsDistinct, FitsColumns, rises-absent}
 
 source-itself : (a : Source) → same_source a a ≡ true
 source-itself (Pin p) = eq-eqb p p refl
 source-itself (Reg p) = eq-eqb p p refl
 
-bool-itself : (b : Bool) → same_bool b b ≡ true
-bool-itself true = refl
-bool-itself false = refl
-
 pub lit-itself : (a : Lit) → same_lit a a ≡ true
-lit-itself a = ap (λ (b : Bool). b && same_bool a.high a.high) (source-itself a.source) ∙ bool-itself a.high
+lit-itself a = ap (λ (b : Bool). b && same_bool a.high a.high) (source-itself a.source) ∙ same-bool a.high
 
 first-false : (a b : Bool) → (a || b) ≡ false → a ≡ false
 first-false true b e = cc

@@ -2,7 +2,7 @@
 use Rattle.std.proofs.Common.{ℕ, ◌≡◌, ◌≢◌, ◌*◌, ◌<◌, Bool, true, false, not, ◌||◌, ◌&&◌, if◌then◌else◌, List, [], ◌∷◌, ◌++◌, length, get_or, refl, sym, ap, ◌∙◌, subst, arith, IsTrue, ltb, eqb, eq-eqb}
 use Rattle.std.specs.List.{AllByRecursion, list_all, flat_map}
 use Rattle.std.proofs.lemmas.List.{length-map}
-use Rattle.std.proofs.lemmas.Bool.{eqb-true, ltb-true}
+use Rattle.std.proofs.lemmas.Bool.{eqb-true, ltb-true, and_parts}
 use Rattle.mig_base.specs.declared.cells.Source.{Source}
 use Rattle.mig_base.specs.declared.cells.Source.TheVariants.{Pin, Reg}
 use Rattle.mig_base.specs.declared.cells.Lit.{Lit}
@@ -12,7 +12,8 @@ use Rattle.mig_base.specs.Cells.{is_among, lit_of, lits_of, row_at, row_of, pair
 use Rattle.mig_base.specs.Bools.{same_bool}
 use Rattle.mig_base.specs.WellFormed.{same_source, same_lit, rises_in, fits_row}
 use Rattle.mig_base.specs.WrittenCells.{has_lit, column_fuse, row_fuses}
-use Rattle.mig_base.proofs.ListLaws.{and-true, or-false, piece-at, all-at, at-all}
+use Rattle.mig_base.proofs.ListLaws.{or-false, piece-at, all-at, at-all}
+use Rattle.mig_base.proofs.ReadLaws.{bool-same}
 
 -- literals that are alike are equal
 
@@ -22,17 +23,11 @@ same_source-eq (Reg p) (Reg q) e = ap Reg (eqb-true p q e)
 same_source-eq (Pin p) (Reg q) e = cc
 same_source-eq (Reg p) (Pin q) e = cc
 
-same_bool-eq : (a b : Bool) → same_bool a b ≡ true → a ≡ b
-same_bool-eq true true e = refl
-same_bool-eq false false e = refl
-same_bool-eq true false e = cc
-same_bool-eq false true e = cc
-
 pub same_lit-eq : (a b : Lit) → same_lit a b ≡ true → a ≡ b
 same_lit-eq a b e =
-    let both = and-true (same_source a.source b.source) (same_bool a.high b.high) e in
+    let both = and_parts (same_source a.source b.source) (same_bool a.high b.high) e in
     let source : a.source ≡ b.source = same_source-eq a.source b.source both.0 in
-    let high : a.high ≡ b.high = same_bool-eq a.high b.high both.1 in
+    let high : a.high ≡ b.high = bool-same a.high b.high both.1 in
     ap (λ (s : Source). let l : Lit = record { source = s; high = a.high } in l) source ∙ ap (λ (h : Bool). let l : Lit = record { source = b.source; high = h } in l) high
 
 not-same : (a b : Lit) (s : Bool) → same_lit a b ≡ s → a ≢ b → s ≡ false
@@ -126,7 +121,7 @@ pub row-read : (columns : List Lit) (r : Row) → IsDistinct columns → FitsCol
 row-read columns row.Never d h =
     ap (λ (b : Bool). if b then row.Never else row.Product (lits_of columns (row_fuses columns row.Never))) (never-zero columns)
 row-read columns (row.Product lits) d h =
-    let fits = and-true (rises_in columns lits) (ltb (length lits) (length columns)) h in
+    let fits = and_parts (rises_in columns lits) (ltb (length lits) (length columns)) h in
     let zeros : list_all not (row_fuses columns (row.Product lits)) ≡ false =
     not-zero columns lits (list_all not (row_fuses columns (row.Product lits))) d fits.0 (ltb-true (length lits) (length columns) fits.1) refl in
     ap (λ (b : Bool). if b then row.Never else row.Product (lits_of columns (row_fuses columns (row.Product lits)))) zeros ∙ ap row.Product (lits-read columns lits d fits.0)
@@ -171,13 +166,13 @@ other-pins : (even_q : Bool) (registers : List ℕ) (p : ℕ) (e : Bool) (ps : L
     AllByRecursion (λ (y : Lit). y ≢ lit_of even_q registers p e) (pair_columns even_q registers ps)
 other-pins even_q registers p e [] h = tt
 other-pins even_q registers p e (q ∷ qs) h =
-    let both = and-true (not (eqb q p)) (list_all (λ q. not (eqb q p)) qs) h in
+    let both = and_parts (not (eqb q p)) (list_all (λ q. not (eqb q p)) qs) h in
     (other-pin even_q registers p q true e both.0, (other-pin even_q registers p q false e both.0, other-pins even_q registers p e qs both.1))
 
 pub columns-distinct : (even_q : Bool) (registers pins : List ℕ) → distinct_pins pins ≡ true → IsDistinct (pair_columns even_q registers pins)
 columns-distinct even_q registers [] h = tt
 columns-distinct even_q registers (p ∷ ps) h =
-    let both = and-true (list_all (λ q. not (eqb q p)) ps) (distinct_pins ps) h in
+    let both = and_parts (list_all (λ q. not (eqb q p)) ps) (distinct_pins ps) h in
     let complement : lit_of even_q registers p false ≢ lit_of even_q registers p true =
     λ is. not-itself (lit_of even_q registers p false).high (lit_of even_q registers p true).high (complement-read even_q registers p) (ap (λ (l : Lit). l.high) is) in
     ((complement, other-pins even_q registers p true ps both.0), (other-pins even_q registers p false ps both.0, columns-distinct even_q registers ps both.1))

@@ -1,5 +1,5 @@
 -- Rows and terms, one more at the end.
-use Rattle.std.proofs.Common.{ℕ, zero, suc, ◌≡◌, ◌+◌, List, [], ◌∷◌, ◌++◌, map, refl, sym, ap, ◌∙◌, arith, add-zero, Bool, true, false, drop, length, min}
+use Rattle.std.proofs.Common.{ℕ, zero, suc, ◌≡◌, ◌+◌, List, [], ◌∷◌, ◌++◌, map, refl, ap, ◌∙◌, arith, Bool, true, false, drop, length, min}
 use Rattle.std.specs.Prelude.{filter, if◌then◌else◌}
 use Rattle.std.proofs.lemmas.List.{map-append}
 use Rattle.std.proofs.lemmas.List.Elements.{filter-append}
@@ -8,13 +8,7 @@ use Rattle.mig_base.specs.First.{made_from}
 use Rattle.mig_base.specs.declared.cells.Row.{Row}
 use Rattle.mig_base.specs.declared.cells.Row.TheVariants as row
 use Rattle.mig_base.specs.Cells.{terms_of, lit_of, lits_of, pair_columns}
-
-pub made_from-more : {T : Type 0} (f : ℕ → T) (first n m : ℕ) → m ≡ n + 1 → made_from f first m ≡ made_from f first n ++ f (first + n) ∷ []
-made_from-more f first zero m e = ap (made_from f first) e ∙ ap (λ k. f k ∷ []) (sym (add-zero first))
-made_from-more f first (suc n) m e =
-    let k : m ≡ suc (n + 1) = omega arith in
-    let s : first + 1 + n ≡ first + suc n = omega arith in
-    ap (made_from f first) k ∙ ap (λ rest. f first ∷ rest) (made_from-more f (first + 1) n (n + 1) refl ∙ ap (λ j. made_from f (first + 1) n ++ f j ∷ []) s)
+use Rattle.mig_base.proofs.ListLaws.{made_from-more}
 
 pub terms_of-never : (rows : List Row) → terms_of (rows ++ row.Never ∷ []) ≡ terms_of rows
 terms_of-never [] = refl

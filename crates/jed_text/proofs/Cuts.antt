@@ -1,17 +1,14 @@
 -- Cutting a list of bytes.
-use Rattle.std.proofs.Common.{ℕ, zero, suc, ◌≡◌, ◌<◌, ◌+◌, Bool, true, false, cond, List, [], ◌∷◌, ◌++◌, take, drop, length, get_or, Option, Some, None, eqb, refl, sym, ap, ◌∙◌, subst, arith}
+use Rattle.std.proofs.Common.{ℕ, ◌≡◌, ◌<◌, ◌+◌, Bool, true, false, cond, List, [], ◌∷◌, ◌++◌, take, drop, length, get_or, Option, Some, None, eqb, refl, sym, ap, ◌∙◌, subst, arith}
 use Rattle.std.specs.Option.{option_map}
 use Rattle.std.proofs.lemmas.List.{take_more, take-append-drop}
 use Rattle.std.proofs.lemmas.Bool.{eqb-true}
 use Rattle.mig_base.specs.FuseText.{Lacks, cut_at, pieces, with_front}
 use Rattle.jed_write.proofs.FuseTextLaws.{cut_at-append}
-use Rattle.std.proofs.lemmas.List.{length-drop}
+use Rattle.jed_write.proofs.WrittenFusesLaws.{lacks-append}
+use Rattle.jed_write.proofs.PartLemmas.{drop_one}
 use Rattle.std.proofs.Math.Seq.{take-length}
 use Rattle.std.proofs.Common.{◌-◌}
-
-lacks-append : (b : ℕ) (xs ys : List ℕ) → Lacks b xs → Lacks b ys → Lacks b (xs ++ ys)
-lacks-append b [] ys hx hy = hy
-lacks-append b (x ∷ xs) ys hx hy = (hx.0, lacks-append b xs ys hx.1 hy)
 
 pub lacks-more : (byte : ℕ) (bytes : List ℕ) (i : ℕ) → i < length bytes → Lacks byte (take i bytes) → eqb (get_or bytes i 0) byte ≡ false → Lacks byte (take (i + 1) bytes)
 lacks-more byte bytes i lt before ne =
@@ -20,11 +17,6 @@ lacks-more byte bytes i lt before ne =
 pub cut_at-none : (byte : ℕ) (bytes : List ℕ) → Lacks byte bytes → cut_at byte bytes ≡ None
 cut_at-none byte [] h = refl
 cut_at-none byte (b ∷ bs) h = rw (h.0, cut_at-none byte bs h.1) refl
-
-drop_one : (bytes : List ℕ) (i : ℕ) → i < length bytes → drop i bytes ≡ get_or bytes i 0 ∷ drop (i + 1) bytes
-drop_one [] i lt = absurd (omega arith)
-drop_one (b ∷ bs) zero lt = refl
-drop_one (b ∷ bs) (suc i) lt = let e : suc i + 1 ≡ suc (i + 1) = omega arith in drop_one bs i (omega arith) ∙ ap (λ (k : ℕ). get_or bs i 0 ∷ drop k (b ∷ bs)) (sym e)
 
 -- a list, cut at a place where the byte stands
 pub split-here : (byte : ℕ) (bytes : List ℕ) (i : ℕ) → i < length bytes → eqb (get_or bytes i 0) byte ≡ true → bytes ≡ take i bytes ++ byte ∷ drop (i + 1) bytes
@@ -51,10 +43,6 @@ pieces-cut (b ∷ bs) = at (eqb b 42) (cut_at 42 bs) (pieces-cut bs)
     at true o e = refl
     at false None e = ap (with_front b) e
     at false (Some p) e = ap (with_front b) e
-
-pub rest-of : (bytes : List ℕ) (k : ℕ) → take (length bytes - k) (drop k bytes) ≡ drop k bytes
-rest-of bytes k = let e : length bytes - k ≡ length (drop k bytes) = omega (arith, length-drop k bytes) in
-    ap (λ (n : ℕ). take n (drop k bytes)) e ∙ take-length (drop k bytes)
 
 pub lacks-whole : (byte : ℕ) (bytes : List ℕ) (i : ℕ) → i ≡ length bytes → Lacks byte (take i bytes) → Lacks byte bytes
 lacks-whole byte bytes i e h = subst (λ (bs : List ℕ). Lacks byte bs) (ap (λ (n : ℕ). take n bytes) e ∙ take-length bytes) h

@@ -1,5 +1,5 @@
 -- The marks of fuses, and how the fields list them.
-use Rattle.std.proofs.Common.{ℕ, zero, suc, ◌≡◌, ◌<◌, ◌≤◌, ◌+◌, ◌-◌, Bool, true, false, cond, ◌&&◌, ◌||◌, List, [], ◌∷◌, ◌++◌, map, length, get_or, set, Option, Some, None, eqb, leb, ltb, refl, sym, ap, ◌∙◌, arith, add-zero, zero-add, append_assoc, append-nil}
+use Rattle.std.proofs.Common.{ℕ, zero, suc, ◌≡◌, ◌<◌, ◌≤◌, ◌+◌, ◌-◌, Bool, true, false, cond, ◌&&◌, ◌||◌, List, [], ◌∷◌, ◌++◌, map, length, set, Option, Some, None, eqb, leb, ltb, refl, sym, ap, ◌∙◌, arith, add-zero, zero-add, append_assoc, append-nil}
 use Rattle.std.specs.Prelude.{not, ◌⊎◌, Result, Ok, replicate, position, slice_get}
 use Rattle.std.specs.List.{filter, position_or_len}
 use Rattle.std.specs.Option.{option_map}
@@ -12,9 +12,11 @@ use Rattle.mig_base.specs.declared.jedec.JedError.TheVariants.{Address}
 use Rattle.mig_base.specs.First.{first_refusal, or_else, unless, made_from, least_from}
 use Rattle.mig_base.specs.Bools.{same_bool}
 use Rattle.mig_base.specs.FuseText.{Said, Count, Default, Listing, FuseSum, Kept, Other, Formless, Statement, says_state, is_state_at, lists, listed, states_of, is_state, address_refusal, address_refusal_by}
+use Rattle.mig_base.proofs.ListLaws.{length-made_from, get_or-made_from}
 use Rattle.std.proofs.lemmas.List.{length-map}
 use Rattle.std.proofs.lemmas.List.Sums.{length-filter}
 use Rattle.std.specs.Prelude.{count_by}
+use Rattle.std.proofs.Math.Bool.{or-false, or-true}
 use Rattle.jed_text.specs.declared.marks.Mark.{Mark}
 use Rattle.jed_text.specs.Marks.{unlisted, with_state, marked, marked_by, marked_in, mark_of, marks_in}
 
@@ -25,18 +27,9 @@ made-same f g a (suc n) h =
     ap (λ x. x ∷ made_from f (a + 1) n) (h a (omega arith))
     ∙ ap (λ xs. g a ∷ xs) (made-same f g (a + 1) n (λ j le. h j (omega arith)))
 
-pub made-get : {T : Type 0} (f : ℕ → T) (a n k : ℕ) (d : T) → k < n → get_or (made_from f a n) k d ≡ f (a + k)
-made-get f a zero k d lt = absurd (omega arith)
-made-get f a (suc n) zero d lt = ap f (sym (add-zero a))
-made-get f a (suc n) (suc k) d lt = let e : a + 1 + k ≡ a + suc k = omega arith in made-get f (a + 1) n k d (omega arith) ∙ ap f e
-
 pub made-map : {T S : Type 0} (f : T → S) (g : ℕ → T) (a n : ℕ) → map f (made_from g a n) ≡ made_from (λ j. f (g j)) a n
 made-map f g a zero = refl
 made-map f g a (suc n) = ap (λ xs. f (g a) ∷ xs) (made-map f g (a + 1) n)
-
-pub made-length : {T : Type 0} (f : ℕ → T) (a n : ℕ) → length (made_from f a n) ≡ n
-made-length f a zero = refl
-made-length f a (suc n) = ap suc (made-length f (a + 1) n)
 
 -- one value of a made list is set
 pub made-set : {T : Type 0} (f : ℕ → T) (a n k p : ℕ) (v : T) → p ≡ a + k → k < n → set (made_from f a n) k v ≡ made_from (λ j. cond (eqb j p) v (f j)) a n
@@ -98,14 +91,6 @@ made-position p f n = sym (least-position p f 0 n ∙ same (position p (made_fro
 -- a fuse as it is listed by a field besides
 abbrev pub listed_by : Said → ℕ → Mark → Mark
 listed_by said j m = record { intact = m.intact || says_state j false said; blown = m.blown || says_state j true said }
-
-or-false : (b : Bool) → (b || false) ≡ b
-or-false true = refl
-or-false false = refl
-
-or-true : (b : Bool) → (b || true) ≡ true
-or-true true = refl
-or-true false = refl
 
 -- the first state of a listing is that of its first fuse
 says-first : (j first : ℕ) (t s : Bool) (ss : List Bool) → says_state j t (Listing first (s ∷ ss)) ≡ cond (eqb j first) (same_bool t s) (says_state j t (Listing (first + 1) ss))
@@ -170,7 +155,7 @@ pub made-marked : (f : ℕ → Mark) (n first : ℕ) (ss : List Bool) → first 
 made-marked f n first [] fits =
     made-same f (λ j. listed_by (Listing first []) j (f j)) 0 n (λ j le. listed-none (f j) (says_state j false (Listing first [])) (says_state j true (Listing first [])) (says-none j first false) (says-none j first true))
 made-marked f n first (s ∷ ss) fits =
-    ap (λ v. marked (set (made_from f 0 n) first (with_state s v)) (first + 1) ss) (made-get f 0 n first unlisted (omega arith) ∙ ap f (zero-add first))
+    ap (λ v. marked (set (made_from f 0 n) first (with_state s v)) (first + 1) ss) (get_or-made_from f 0 n first unlisted (omega arith) ∙ ap f (zero-add first))
     ∙ ap (λ ms. marked ms (first + 1) ss) (made-set f 0 n first first (with_state s (f first)) (omega arith) (omega arith))
     ∙ made-marked (λ j. cond (eqb j first) (with_state s (f first)) (f j)) n (first + 1) ss (omega arith)
     ∙ made-same (λ j. listed_by (Listing (first + 1) ss) j (cond (eqb j first) (with_state s (f first)) (f j))) (λ j. listed_by (Listing first (s ∷ ss)) j (f j)) 0 n (λ j le. listed-first f first s ss j)
@@ -245,4 +230,4 @@ pub states-count : (text : List ℕ) → length (states_of text) ≡ count_by is
 states-count text = length-map (filter is_state text) (λ b. eqb b 49) ∙ length-filter is_state text
 
 pub marks-length : (fields : List Statement) (n : ℕ) → length (marks_in fields n) ≡ n
-marks-length fields n = made-length (mark_of fields) 0 n
+marks-length fields n = length-made_from (mark_of fields) 0 n

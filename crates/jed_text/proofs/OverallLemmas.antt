@@ -1,7 +1,8 @@
 -- What fields say of all fuses, one after the other.
-use Rattle.std.proofs.Common.{ℕ, ◌≡◌, Bool, true, false, ◌||◌, List, [], ◌∷◌, ◌++◌, Option, Some, None, Result, Ok, Err, refl, sym, ap, ◌∙◌}
+use Rattle.std.proofs.Common.{ℕ, ◌≡◌, Bool, ◌||◌, List, [], ◌∷◌, ◌++◌, Option, Some, None, Result, Ok, Err, refl, sym, ap, ◌∙◌}
 use Rattle.std.specs.Option.{is_some}
 use Rattle.std.proofs.lemmas.List.Folds.{list_any-append}
+use Rattle.std.proofs.Math.Bool.{or-false, or-true}
 use Rattle.mig_base.specs.declared.jedec.JedError.{JedError}
 use Rattle.mig_base.specs.First.{first_refusal, or_else, unless}
 use Rattle.mig_base.specs.FuseText.{Said, Count, Default, Listing, FuseSum, Kept, Other, Formless, Statement, any_before, counts, defaults, count_in, count_or, default_in, default_or, field_refusal, field_refusal_by}
@@ -17,14 +18,6 @@ overall_on overall (f ∷ fs) = unless (field_refusal_by (is_some overall.count)
 or-none : {E : Type 0} (o : Option E) → or_else o None ≡ o
 or-none None = refl
 or-none (Some e) = refl
-
-or-false : (b : Bool) → (b || false) ≡ b
-or-false true = refl
-or-false false = refl
-
-or-true : (b : Bool) → (b || true) ≡ true
-or-true true = refl
-or-true false = refl
 
 -- a second number of fuses is refused, so it does not matter which one is kept
 count-kept : (said : Said) (count later : Option ℕ) (defaulted : Bool) (place : ℕ) → field_refusal_by (is_some count) defaulted place said ≡ None → or_else (count_or said count) later ≡ or_else count (count_or said later)

@@ -1,12 +1,13 @@
 -- A fuse text has at most 8,192 fuses.
-use Rattle.std.proofs.Common.{ℕ, zero, suc, ◌≡◌, ◌≤◌, ◌+◌, Bool, true, false, cond, map, List, [], ◌∷◌, ◌++◌, length, Option, Some, None, Result, Ok, refl, sym, ap, ◌∙◌, subst, arith}
+use Rattle.std.proofs.Common.{ℕ, ◌≡◌, ◌≤◌, ◌+◌, Bool, true, false, cond, map, List, [], ◌∷◌, ◌++◌, length, Option, Some, None, Result, Ok, refl, sym, ap, ◌∙◌, subst, arith}
 use Rattle.std.specs.Prelude.{nat_le}
 use Rattle.std.specs.Option.{option_map}
 use Rattle.std.proofs.lemmas.Bool.{leb-true}
 use Rattle.mig_base.specs.declared.jedec.JedError.{JedError}
 use Rattle.mig_base.specs.declared.jedec.JedError.TheVariants.{BadField, CountTwice, CountOver, NoCount, NoStx, NoEtx}
-use Rattle.mig_base.specs.First.{or_else, first_refusal, unless, needed, made_from}
+use Rattle.mig_base.specs.First.{or_else, first_refusal, unless, needed}
 use Rattle.mig_base.specs.FuseText.{Said, Count, Default, Listing, FuseSum, Kept, Other, Formless, Statement, any_before, counts, defaults, field_refusal_by, field_refusal, count_or, count_in, states_in, sum_refusal, fuse_sum, address_refusal, default_in, fuses_in, fuses_of_text, cut_at, fields_of, pieces, loose_of, statement_of, fuses_of_count, twice_refusal, unset_refusal}
+use Rattle.mig_base.proofs.ListLaws.{length-made_from}
 
 -- where nothing is refused
 pub record Passed {E A : Type 0} (refusal : Option E) (rest : Result A E) (a : A) : Type 0 where
@@ -47,10 +48,6 @@ few-fields before (f ∷ fs) n none e =
     let parts = or-none (field_refusal before f) (first_refusal field_refusal (before ++ f ∷ []) fs) none in
     few-field (any_before counts before) (any_before defaults before) f.at f.says (count_in fs) n parts.0 (λ (later : count_in fs ≡ Some n). few-fields (before ++ f ∷ []) fs n parts.1 later) e
 
-length-made : {T : Type 0} (f : ℕ → T) (first n : ℕ) → length (made_from f first n) ≡ n
-length-made f first zero = refl
-length-made f first (suc n) = ap (λ (k : ℕ). suc k) (length-made f (first + 1) n)
-
 few-of-count : (fs : List Statement) (n : ℕ) (bits : List Bool) → fuses_of_count fs n ≡ Ok bits → length bits ≡ n
 few-of-count fs n bits h =
     let c = unless-ok (first_refusal (λ before f. address_refusal n f) [] fs) _ bits h in
@@ -59,7 +56,7 @@ few-of-count fs n bits h =
     let told : Result (List Bool) JedError = Ok (states_in fs n) in
     let s = unless-ok (first_refusal (λ before f. sum_refusal (fuse_sum (states_in fs n)) f) [] fs) told bits e.then in
     let same : states_in fs n ≡ bits = same-ok (states_in fs n) bits s.then in
-    ap length (sym same) ∙ length-made _ 0 n
+    ap length (sym same) ∙ length-made_from _ 0 n
   where
     same-ok : (x y : List Bool) → (let q : Result (List Bool) JedError = Ok x in q) ≡ Ok y → x ≡ y
     same-ok x y e = cc

@@ -38,10 +38,6 @@ four-digits n h = omega arith
 pub digit-value : (d : ℕ) → d < 10 → digit_value (48 + d) ≡ Some d
 digit-value d h = grind (arith, nat_tests)
 
-pub map-append : {T S : Type 0} (f : T → S) (xs ys : List T) → map f (xs ++ ys) ≡ map f xs ++ map f ys
-map-append f [] ys = refl
-map-append f (x ∷ xs) ys = ap (λ rest. f x ∷ rest) (map-append f xs ys)
-
 -- a line begins with what is no blank
 pub record Begins (line : List ℕ) : Type 0 where
   pub skipped : skip_blanks line ≡ line

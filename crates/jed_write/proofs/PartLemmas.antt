@@ -12,7 +12,7 @@ use Rattle.mig_base.specs.FuseText.{fuse_sum}
 use Rattle.mig_base.specs.WrittenFuses.{Group, four_hex, lines_of_group, group_lines, states_of_groups, written_line, head_lines, written_body, groups_by, array_rows, row_sizes, tail_sizes, written_groups, design_of, pins_digits}
 use Rattle.jed_write.proofs.WrittenKinds.{is_count, groups_by-states, written-states}
 
-drop_one : (sizes : List ℕ) (i : ℕ) → i < length sizes → drop i sizes ≡ get_or sizes i 0 ∷ drop (i + 1) sizes
+pub drop_one : (sizes : List ℕ) (i : ℕ) → i < length sizes → drop i sizes ≡ get_or sizes i 0 ∷ drop (i + 1) sizes
 drop_one [] i lt = absurd (omega arith)
 drop_one (b ∷ bs) zero lt = refl
 drop_one (b ∷ bs) (suc i) lt = let e : suc i + 1 ≡ suc (i + 1) = omega arith in drop_one bs i (omega arith) ∙ ap (λ (k : ℕ). get_or bs i 0 ∷ drop k (b ∷ bs)) (sym e)

@@ -14,20 +14,19 @@ use Rattle.mig_base.specs.WrittenFuses.{four_digits, hex_digit, four_hex, state_
 use Rattle.std.proofs.lemmas.Bool.{le-leb}
 use Rattle.std.proofs.Common.{length-append, eq-eqb}
 use Rattle.std.specs.Prelude.{codes}
+use Rattle.std.proofs.Math.Bool.{or-false}
+use Rattle.std.proofs.lemmas.List.{map-append}
 use Rattle.mig_base.specs.FuseText.{if_blank, if_four, said_refusal}
 use Rattle.mig_base.specs.declared.jedec.JedError.TheVariants.{BadSum}
 use Rattle.mig_base.specs.declared.jedec.JedError.{JedError}
 use Rattle.mig_base.specs.declared.jedec.JedError.TheVariants.{Address, BadFuseSum, CountTwice, CountOver, DefaultTwice, FuseTwice, NoCount, NoStx, NoEtx}
 use Rattle.mig_base.specs.First.{or_else, first_refusal, unless, needed, least_from, made_from}
-use Rattle.jed_write.proofs.FuseTextLaws.{cut_at-append, pieces-append, after_line, pieces-lines, map-append, Begins, fields-lines, group_says, said-listing, number-four, skip-digits, says-outside, says-inside, any_says, groups-outside, groups-set, slice_get-append-left, slice_get-append-right}
+use Rattle.mig_base.proofs.ListLaws.{all-append}
+use Rattle.jed_write.proofs.FuseTextLaws.{cut_at-append, pieces-append, after_line, pieces-lines, Begins, fields-lines, group_says, said-listing, number-four, skip-digits, says-outside, says-inside, any_says, groups-outside, groups-set, slice_get-append-left, slice_get-append-right}
 
 listed-says : (k : ℕ) (state : Bool) (fs : List Statement) → listed fs k state ≡ any_says k state (map (λ f. f.says) fs)
 listed-says k state [] = refl
 listed-says k state (f ∷ fs) = ap (λ b. says_state k state f.says || b) (listed-says k state fs)
-
-or-false : (b : Bool) → (b || false) ≡ b
-or-false true = refl
-or-false false = refl
 
 clear-at : (o : Option Bool) → is_state_at false o ≡ true → is_state_at true o ≡ false
 clear-at None h = refl
@@ -333,7 +332,7 @@ groups-said first (g ∷ gs) h =
     here true = ap (λ s. s ∷ []) (said-listing first g.states (omega (arith, length-append g.states (states_of_groups gs))))
     here false = refl
 
-lacks-append : (b : ℕ) (xs ys : List ℕ) → Lacks b xs → Lacks b ys → Lacks b (xs ++ ys)
+pub lacks-append : (b : ℕ) (xs ys : List ℕ) → Lacks b xs → Lacks b ys → Lacks b (xs ++ ys)
 lacks-append b [] ys hx hy = hy
 lacks-append b (x ∷ xs) ys hx hy = (hx.0, lacks-append b xs ys hx.1 hy)
 
@@ -365,14 +364,10 @@ lacks-listing b first states h blank =
 AllLack : ℕ → List (List ℕ) → Type 0
 AllLack b lines = AllByRecursion (Lacks b) lines
 
-lines-append : {T : Type 0} (P : T → Type 0) (xs ys : List T) → AllByRecursion P xs → AllByRecursion P ys → AllByRecursion P (xs ++ ys)
-lines-append P [] ys hx hy = hy
-lines-append P (x ∷ xs) ys hx hy = (hx.0, lines-append P xs ys hx.1 hy)
-
 lacks-groups : (b first : ℕ) (gs : List Group) → b < 48 → eqb 32 b ≡ false → AllByRecursion (Lacks b) (group_lines first gs)
 lacks-groups b first [] h blank = tt
 lacks-groups b first (g ∷ gs) h blank =
-    lines-append (Lacks b) (if g.always || list_any (λ s. s) g.states then listing_line first g.states ∷ [] else []) (group_lines (first + length g.states) gs)
+    all-append (Lacks b) (if g.always || list_any (λ s. s) g.states then listing_line first g.states ∷ [] else []) (group_lines (first + length g.states) gs)
     (here (g.always || list_any (λ s. s) g.states)) (lacks-groups b (first + length g.states) gs h blank)
   where
     here : (w : Bool) → AllByRecursion (Lacks b) (if w then listing_line first g.states ∷ [] else [])
@@ -382,7 +377,7 @@ lacks-groups b first (g ∷ gs) h blank =
 begins-groups : (first : ℕ) (gs : List Group) → AllByRecursion Begins (group_lines first gs)
 begins-groups first [] = tt
 begins-groups first (g ∷ gs) =
-    lines-append Begins (if g.always || list_any (λ s. s) g.states then listing_line first g.states ∷ [] else []) (group_lines (first + length g.states) gs)
+    all-append Begins (if g.always || list_any (λ s. s) g.states then listing_line first g.states ∷ [] else []) (group_lines (first + length g.states) gs)
     (here (g.always || list_any (λ s. s) g.states)) (begins-groups (first + length g.states) gs)
   where
     here : (w : Bool) → AllByRecursion Begins (if w then listing_line first g.states ∷ [] else [])
@@ -403,7 +398,7 @@ lacks-lines b design pins gs out = (
       (upper 71 (omega arith), (upper 48 (omega arith), tt)),
       (
         (upper 70 (omega arith), (upper 48 (omega arith), tt)),
-        lines-append (Lacks b) (group_lines 0 gs) ((67 ∷ four_hex (fuse_sum (states_of_groups gs))) ∷ []) (lacks-groups b 0 gs out.low out.blank)
+        all-append (Lacks b) (group_lines 0 gs) ((67 ∷ four_hex (fuse_sum (states_of_groups gs))) ∷ []) (lacks-groups b 0 gs out.low out.blank)
             ((upper 67 (omega arith), lacks-hex b out.low (fuse_sum (states_of_groups gs))), tt),
       ),
     ),
@@ -422,7 +417,7 @@ begins-lines pins gs = (
       record { skipped = refl },
       (
         record { skipped = refl },
-        lines-append Begins (group_lines 0 gs) ((67 ∷ four_hex (fuse_sum (states_of_groups gs))) ∷ []) (begins-groups 0 gs) (record { skipped = refl }, tt),
+        all-append Begins (group_lines 0 gs) ((67 ∷ four_hex (fuse_sum (states_of_groups gs))) ∷ []) (begins-groups 0 gs) (record { skipped = refl }, tt),
       ),
     ),
   ),

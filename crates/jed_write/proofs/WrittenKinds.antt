@@ -14,6 +14,7 @@ use Rattle.mig_base.specs.declared.kinds.Kind.TheVariants.{Pal16L8, Pal16R4, Pal
 use Rattle.mig_base.specs.DeviceTables.{kind_name, pins_of, array_width, is_22, is_v8, has_count}
 use Rattle.mig_base.specs.FuseText.{Lacks, fuses_of_text, fuse_sum}
 use Rattle.mig_base.specs.WrittenFuses.{Group, four_digits, four_hex, state_digit, listing_line, is_written, group_lines, states_of_groups, written_line, written_body, written_text, groups_by, array_rows, row_sizes, tail_sizes, tail_sizes_22, tail_sizes_v8, written_groups, design_of, pins_digits, written_fuses}
+use Rattle.mig_base.proofs.KindFacts.{kind-name-length}
 use Rattle.jed_write.proofs.WrittenFusesLaws.{read_back}
 
 -- a count that a kind may have is that of its array and of the groups behind it
@@ -153,20 +154,6 @@ pub groups_by-length : (always : Bool) (sizes : List ℕ) (bits : List Bool) →
 groups_by-length always [] bits = refl
 groups_by-length always (n ∷ ns) bits = ap suc (groups_by-length always ns (drop n bits))
 
-name-length : (k : Kind) → length (kind_name k) ≤ 9
-name-length Pal16L8 = lit≤ tt
-name-length Pal16R4 = lit≤ tt
-name-length Pal16R6 = lit≤ tt
-name-length Pal16R8 = lit≤ tt
-name-length Pal20L8 = lit≤ tt
-name-length Pal20R4 = lit≤ tt
-name-length Pal20R6 = lit≤ tt
-name-length Pal20R8 = lit≤ tt
-name-length Gal16V8 = lit≤ tt
-name-length Gal20V8 = lit≤ tt
-name-length Gal22V10 = lit≤ tt
-name-length Gal22V10Q = lit≤ tt
-
 pins-length : (k : Kind) → length (pins_digits k) ≡ 2
 pins-length k = at (eqb (pins_of k) 20)
   where
@@ -234,4 +221,4 @@ pub written-short : (k : Kind) (bits : List Bool) → IsTrue (has_count k (lengt
 written-short k bits h =
     let states : length (states_of_groups (written_groups k bits)) ≡ length bits = ap length (written-states k bits (is_count k (length bits) h)) in
     let few : length bits ≤ 5892 = (is_count k (length bits) h).few in
-    omega (arith, around-length (design_of k) (pins_digits k) (written_groups k bits), lines-length 0 (written_groups k bits), groups-few k bits, name-length k, pins-length k, length-append (codes "palmig ") (kind_name k))
+    omega (arith, around-length (design_of k) (pins_digits k) (written_groups k bits), lines-length 0 (written_groups k bits), groups-few k bits, kind-name-length k, pins-length k, length-append (codes "palmig ") (kind_name k))

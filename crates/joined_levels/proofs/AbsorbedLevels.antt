@@ -14,16 +14,17 @@ use Rattle.mig_base.specs.declared.circuit.Gives.{Gives}
 use Rattle.mig_base.specs.declared.circuit.Gives.TheVariants.{Sum, Visible}
 use Rattle.mig_base.specs.declared.circuit.Driver.{Driver}
 use Rattle.mig_base.specs.declared.circuit.NetKind.{NetKind}
-use Rattle.mig_base.specs.declared.circuit.NetKind.TheVariants.{Ground, Power, Handed, Shared, Inner}
+use Rattle.mig_base.specs.declared.circuit.NetKind.TheVariants.{Inner}
 use Rattle.mig_base.specs.declared.circuit.Circuit.{Circuit}
 use Rattle.mig_base.specs.declared.circuit.Levels.{Levels}
-use Rattle.mig_base.specs.Accepted.{IsAccepted, is_fixed}
+use Rattle.mig_base.specs.Accepted.{IsAccepted}
 use Rattle.mig_base.specs.Among.{Among}
 use Rattle.mig_base.specs.Boards.{units_from}
 use Rattle.mig_base.specs.Levels.{read_level, not3, level_at, or_x}
 use Rattle.mig_base.specs.Resolve.{resolved}
 use Rattle.mig_base.specs.Structure.{is_shared}
 use Rattle.mig_base.specs.Values.{inverted, row_value, sum_value}
+use Rattle.mig_base.proofs.Aliases.{inner}
 use Rattle.structure.specs.Absorbable.{AbsorbsAt, is_plain, is_sum}
 use Rattle.structure.specs.Live.{DrivesWire}
 use Rattle.structure.specs.Products.{part_over}
@@ -48,13 +49,6 @@ one-driver pull Zero h = refl
 one-driver pull One h = refl
 one-driver pull Z h = absurd (h refl)
 one-driver pull X h = refl
-
-inner : (k : NetKind) → is_shared k ≡ false → (is_fixed k ≡ true → ⊥) → k ≡ Inner
-inner Ground s h = absurd (h refl)
-inner Power s h = absurd (h refl)
-inner (Handed j) s h = absurd (h refl)
-inner (Shared j) s h = cc
-inner Inner s h = refl
 
 always-is : (g : Gate) → is_always g ≡ true → g ≡ Product []
 always-is Never e = cc

@@ -1,7 +1,6 @@
 -- A unit drives one net at most, and a Both port is a port.
-use Rattle.std.proofs.Common.{ℕ, zero, suc, ◌≡◌, ◌+◌, Bool, true, false, cond, List, [], ◌∷◌, ◌++◌, map, Some, refl, sym, ap, ◌∙◌, subst, inl, inr, arith, eqb, eqb-true}
+use Rattle.std.proofs.Common.{ℕ, zero, suc, ◌≡◌, ◌+◌, Bool, true, false, cond, List, [], ◌∷◌, ◌++◌, map, Some, refl, sym, ap, ◌∙◌, subst, inl, arith}
 use Rattle.std.specs.List.{slice_get}
-use Rattle.std.proofs.lemmas.Bool.{and_parts}
 use Rattle.std.proofs.lemmas.Option.{same_Some}
 use Rattle.mig_base.specs.declared.nets.Net.{Net}
 use Rattle.mig_base.specs.declared.nets.NetLine.{NetLine}
@@ -13,55 +12,18 @@ use Rattle.mig_base.specs.declared.circuit.NetKind.{NetKind}
 use Rattle.mig_base.specs.declared.circuit.NetKind.TheVariants.{Ground, Power, Inner}
 use Rattle.mig_base.specs.declared.circuit.Wire.{Wire}
 use Rattle.mig_base.specs.Among.{Among}
-use Rattle.mig_base.specs.Boards.{ChipUnit, at_of, can_drive, circuit_on, driver_of, drives, is_handed, is_port, is_port_kind, kind_at, kinds_from, kinds_of, net_of, places_from, privates, wires_from}
+use Rattle.mig_base.specs.Boards.{ChipUnit, at_of, circuit_on, drives, is_handed, is_port, is_port_kind, kind_at, kinds_from, kinds_of, net_of, places_from, privates, wires_from}
 use Rattle.mig_base.specs.Structure.{is_shared}
 use Rattle.mig_base.proofs.Amongs.{among-right}
 use Rattle.structure.specs.Live.{DrivesWire}
-
--- a place among those that pass
-record Passes {T : Type 0} (test : T → Bool) (i : ℕ) (xs : List T) (u : ℕ) : Type 0 where
-  place : ℕ
-  number : u ≡ i + place
-  item : T
-  is : slice_get xs place ≡ Some item
-  passes : test item ≡ true
-
-passes-at : {T : Type 0} (test : T → Bool) (i : ℕ) (xs : List T) (u : ℕ) → Among u (places_from test i xs) → Passes test i xs u
-passes-at test i [] u a = absurd a
-passes-at {T} test i (x ∷ xs) u a = at (test x) refl a (passes-at test (i + 1) xs u)
-  where
-    at : (q : Bool) → test x ≡ q → Among u (cond q (i ∷ []) [] ++ places_from test (i + 1) xs) → (Among u (places_from test (i + 1) xs) → Passes test (i + 1) xs u) → Passes test i (x ∷ xs) u
-    at true is (inl e) later = record { place = 0; number = let n : i ≡ i + 0 = omega arith in e ∙ n; item = x; is = refl; passes = is }
-    at true is (inr m) later = let r = later m in record { place = suc r.place; number = let n : i + 1 + r.place ≡ i + suc r.place = omega arith in r.number ∙ n; item = r.item; is = r.is; passes = r.passes }
-    at false is m later = let r = later m in record { place = suc r.place; number = let n : i + 1 + r.place ≡ i + suc r.place = omega arith in r.number ∙ n; item = r.item; is = r.is; passes = r.passes }
+use Rattle.board.proofs.DrivenLaws.{driver-on}
 
 module _ (net : Net) (units : List ChipUnit) where
-  wires-drivers : (n : ℕ) (ks : List (NetKind × Pull)) (m u : ℕ) → DrivesWire u (slice_get (wires_from net units n ks) m) → Among u (places_from (drives net units (n + m)) 0 units)
-  wires-drivers n [] m u a = absurd a
-  wires-drivers n (k ∷ ks) zero u a = let e : n ≡ n + 0 = omega arith in subst (λ (j : ℕ). Among u (places_from (drives net units j) 0 units)) e a
-  wires-drivers n (k ∷ ks) (suc m) u a =
-      let e : n + 1 + m ≡ n + suc m = omega arith in
-      subst (λ (j : ℕ). Among u (places_from (drives net units j) 0 units)) e (wires-drivers (n + 1) ks m u a)
-
-  -- the unit of a driver, and its net
-  record IsOn (n u : ℕ) : Type 0 where
-    unit : ChipUnit
-    is : slice_get units u ≡ Some unit
-    on : net_of net (at_of unit) ≡ n
-
-  driver-on : (n u : ℕ) → DrivesWire u (slice_get (circuit_on net units).nets n) → IsOn n u
-  driver-on n u d =
-      let p = passes-at (drives net units (0 + n)) 0 units u (wires-drivers 0 (kinds_of net) n u d) in
-      let number : p.place ≡ u = let e : 0 + p.place ≡ p.place = omega arith in sym (p.number ∙ e) in
-      let parts = and_parts (eqb (net_of net (at_of p.item)) (0 + n)) (can_drive (driver_of net units p.item).enable) p.passes in
-      let on : 0 + n ≡ n = omega arith in
-      record { unit = p.item; is = subst (λ (j : ℕ). slice_get units j ≡ Some p.item) number p.is; on = eqb-true (net_of net (at_of p.item)) (0 + n) parts.0 ∙ on }
-
   -- a unit drives one net at most
   pub one-net : (n m u : ℕ) → DrivesWire u (slice_get (circuit_on net units).nets n) → DrivesWire u (slice_get (circuit_on net units).nets m) → n ≡ m
   one-net n m u a b =
-      let x = driver-on n u a in
-      let y = driver-on m u b in
+      let x = driver-on net units n u a in
+      let y = driver-on net units m u b in
       sym x.on ∙ ap (λ (z : ChipUnit). net_of net (at_of z)) (same_Some x.unit y.unit (sym x.is ∙ y.is)) ∙ y.on
 
   private-kind : {T : Type 0} (ps : List T) (j : ℕ) (k : NetKind × Pull) → slice_get (map (λ q. (Inner, Free)) ps) j ≡ Some k → is_shared k.0 ≡ true → ⊥

@@ -1,9 +1,9 @@
 -- The table of absorbed nets.
-use Rattle.std.proofs.Common.{ℕ, zero, suc, ◌≡◌, ◌⊎◌, ◌<◌, ◌+◌, Bool, true, false, cond, List, [], ◌∷◌, ◌++◌, length, replicate, take, Option, Some, None, refl, sym, ap, ◌∙◌, subst, inl, inr, arith, zero-add}
+use Rattle.std.proofs.Common.{ℕ, zero, suc, ◌≡◌, ◌⊎◌, ◌<◌, ◌+◌, Bool, true, false, List, [], ◌∷◌, ◌++◌, length, replicate, take, Option, Some, None, refl, sym, ap, ◌∙◌, subst, inl, inr, arith, zero-add}
 use Rattle.std.specs.Prelude.{slice_get, if◌then◌else◌}
 use Rattle.std.proofs.Math.ListN.{get_or, set}
 use Rattle.std.proofs.lemmas.List.{length-map, length-replicate, length-set, get_or-set_same, take_more}
-use Rattle.std.proofs.lemmas.Option.{slice_get_within}
+use Rattle.std.proofs.lemmas.Option.{slice_get_within, same_Some}
 use Rattle.mig_base.specs.Among.{Among}
 use Rattle.mig_base.specs.Boards.{ChipUnit, driver_of, drives, kinds_of, places_from, units_from, wires_from}
 use Rattle.mig_base.specs.First.{made_from}
@@ -13,11 +13,12 @@ use Rattle.mig_base.specs.declared.nets.Net.{Net as Wiring}
 use Rattle.mig_base.specs.declared.nets.Pull.{Pull}
 use Rattle.mig_base.specs.declared.nets.Var.TheVariants.{Net}
 use Rattle.mig_base.proofs.Amongs.{among-left, among-right}
+use Rattle.mig_base.proofs.PlaceLaws.{places-within}
+use Rattle.mig_base.proofs.ListLaws.{length-made_from, item-at}
 use Rattle.structure.proofs.NeededNodes.{among-last, flag-kept, flag-raised}
 use Rattle.structure.proofs.Wakings.{flag-within}
 use Rattle.board.specs.Enables.{drivers_of}
 use Rattle.board.specs.Joined.{Joined, equations_of}
-use Rattle.board.proofs.ListSteps.{made-length, some-at}
 use Rattle.joiner.specs.AbsorbedNets.{AreAbsorbedNets, AreListed, sole_listed}
 use Rattle.joiner.specs.declared.marks.Marks.{Marks}
 use Rattle.joiner.specs.Joined.{IsAbsorbed}
@@ -51,16 +52,6 @@ listed-more units absorbed i flags new within are is = subst (AreListed units (t
     back u inside (inl a) = flag-kept flags w u ((are.each u inside).1 a)
     back u inside (inr e) = subst (λ (v : ℕ). get_or (set flags v true) u false ≡ true) e (get_or-set_same flags u true false (omega (arith, are.long)))
 
--- the drivers of a net are units of the board
-places-within : {T : Type 0} (test : T → Bool) (i : ℕ) (xs : List T) (u : ℕ) → Among u (places_from test i xs) → u < i + length xs
-places-within test i [] u a = absurd a
-places-within {T} test i (x ∷ xs) u a = at (test x) a (places-within test (i + 1) xs u)
-  where
-    at : (q : Bool) → Among u (cond q (i ∷ []) [] ++ places_from test (i + 1) xs) → (Among u (places_from test (i + 1) xs) → u < i + 1 + length xs) → u < i + length (x ∷ xs)
-    at true (inl e) rest = omega (arith, e)
-    at true (inr b) rest = let h = rest b in omega arith
-    at false b rest = let h = rest b in omega arith
-
 wire-drivers : (net : Wiring) (units : List ChipUnit) (first : ℕ) (kinds : List (NetKind × Pull)) (n : ℕ) (w : Wire) → slice_get (wires_from net units first kinds) n ≡ Some w →
     (m : ℕ) × (w.drivers ≡ places_from (drives net units m) 0 units)
 wire-drivers net units first [] n w e = cc
@@ -84,21 +75,18 @@ get-made f first (suc n) (suc i) h = let e : first + 1 + i ≡ first + suc i = o
 made-at : {T : Type 0} (f : ℕ → T) (n i : ℕ) → i < n → slice_get (made_from f 0 n) i ≡ Some (f i)
 made-at f n i h = get-made f 0 n i h ∙ ap (λ (k : ℕ). Some (f k)) (zero-add i)
 
-same-some : {T : Type 0} (x y : T) → Some x ≡ Some y → x ≡ y
-same-some x y e = cc
-
 sole-is : (flags : List Bool) (us : List ℕ) (u : ℕ) → sole_listed flags us ≡ Some u → (us ≡ u ∷ []) × (get_or flags u false ≡ true)
 sole-is flags [] u e = cc
 sole-is flags (w ∷ []) u e = at (get_or flags w false) refl e
   where
     at : (q : Bool) → get_or flags w false ≡ q → (if q then Some w else None) ≡ Some u → (w ∷ [] ≡ u ∷ []) × (get_or flags u false ≡ true)
-    at true is h = let same : w ≡ u = same-some w u h in (ap (λ (v : ℕ). v ∷ []) same, subst (λ (v : ℕ). get_or flags v false ≡ true) same is)
+    at true is h = let same : w ≡ u = same_Some w u h in (ap (λ (v : ℕ). v ∷ []) same, subst (λ (v : ℕ). get_or flags v false ≡ true) same is)
     at false is h = cc
 sole-is flags (w ∷ v ∷ us) u e = cc
 
 pub nets-absorbed : (b : Joined) (absorbed : List ℕ) (flags : List Bool) (nets : List (Option ℕ)) → AreListed (length (equations_of b).units) absorbed flags →
     nets ≡ made_from (λ n. sole_listed flags (drivers_of (slice_get (equations_of b).nets n))) 0 (length (equations_of b).nets) → AreAbsorbedNets b absorbed nets
-nets-absorbed b absorbed flags nets are is = subst (AreAbsorbedNets b absorbed) (sym is) (record { long = made-length entry 0 many; each = λ n u. (there n u, back n u) })
+nets-absorbed b absorbed flags nets are is = subst (AreAbsorbedNets b absorbed) (sym is) (record { long = length-made_from entry 0 many; each = λ n u. (there n u, back n u) })
   where
     many : ℕ
     many = length (equations_of b).nets
@@ -108,9 +96,9 @@ nets-absorbed b absorbed flags nets are is = subst (AreAbsorbedNets b absorbed) 
 
     there : (n u : ℕ) → slice_get (made_from entry 0 many) n ≡ Some (Some u) → IsAbsorbed b absorbed n u
     there n u e =
-        let within : n < many = omega (arith, slice_get_within (made_from entry 0 many) n (Some u) e, made-length entry 0 many) in
-        let at : entry n ≡ Some u = same-some (entry n) (Some u) (sym (made-at entry many n within) ∙ e) in
-        let wire = some-at (equations_of b).nets n within in
+        let within : n < many = omega (arith, slice_get_within (made_from entry 0 many) n (Some u) e, length-made_from entry 0 many) in
+        let at : entry n ≡ Some u = same_Some (entry n) (Some u) (sym (made-at entry many n within) ∙ e) in
+        let wire = item-at (equations_of b).nets n within in
         let sole = sole-is flags (drivers_of (slice_get (equations_of b).nets n)) u at in
         let inside : u < length (equations_of b).units = omega (arith, flag-within flags u sole.1, are.long) in
         record { wire = wire.0; on = wire.1; alone = sym (ap drivers_of wire.1) ∙ sole.0; listed = (are.each u inside).0 sole.1 }
@@ -142,8 +130,8 @@ nets-needed b absorbed m nets needed are is = subst (AreNeededNets b absorbed m)
     sound : (n u : ℕ) → unit_at table n ≡ Some u → IsAbsorbed b absorbed n u
     sound n u e =
         let entry : slice_get table n ≡ Some (Some u) = entry-at table n u e in
-        let within : n < many = omega (arith, slice_get_within table n (Some u) entry, made-length (needed_at nets m) 0 many) in
-        let at : needed_at nets m n ≡ Some u = same-some (needed_at nets m n) (Some u) (sym (made-at (needed_at nets m) many n within) ∙ entry) in
+        let within : n < many = omega (arith, slice_get_within table n (Some u) entry, length-made_from (needed_at nets m) 0 many) in
+        let at : needed_at nets m n ≡ Some u = same_Some (needed_at nets m n) (Some u) (sym (made-at (needed_at nets m) many n within) ∙ entry) in
         (are.each n u).0 (entry-at nets n u (of_marked n u (marked m (Net n)) at))
 
     every : (n u : ℕ) → IsAbsorbed b absorbed n u → marked m (Net n) ≡ true → unit_at table n ≡ Some u

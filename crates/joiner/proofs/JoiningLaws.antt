@@ -1,9 +1,9 @@
 -- The table of pairs along an order of evaluation.
-use Rattle.std.proofs.Common.{◌≡◌, ◌≢◌, ◌⊎◌, ◌<◌, ℕ, Bool, true, false, not, ◌||◌, ◌&&◌, zero, suc, refl, sym, ◌∙◌, ap, subst, List, [], ◌∷◌, length, take, get_or, set, slice_get, map, Option, None, Some, IfSome, inl, inr, arith, Result, Ok, Err, IfOk, replicate, ◌++◌}
-use Rattle.std.specs.List.{list_all}
+use Rattle.std.proofs.Common.{◌≡◌, ◌≢◌, ◌⊎◌, ◌<◌, ℕ, Bool, true, false, not, ◌||◌, zero, suc, refl, sym, ◌∙◌, ap, subst, List, [], ◌∷◌, length, take, get_or, set, slice_get, map, Option, None, Some, IfSome, inl, inr, arith, Result, Ok, Err, IfOk, replicate, ◌++◌}
 use Rattle.std.proofs.lemmas.Bool.{cases_eq, eq-eqb}
 use Rattle.std.proofs.lemmas.List.{get_or-set_same, get_or-set_other, length-set}
 use Rattle.std.proofs.lemmas.Option.{slice_get_within}
+use Rattle.std.proofs.Math.Bool.{or-true, not-not}
 use Rattle.bdd.specs.Tree.{Point}
 use Rattle.bdd.specs.Diagram.{Diagram, function_of, Keeps}
 use Rattle.bdd.specs.declared.Ref.{Ref}
@@ -21,7 +21,7 @@ use Rattle.rails.specs.Variables.{all_rails, same_var}
 use Rattle.rails.specs.Points.{mirror, inverse, IsMonotone, Is}
 use Rattle.ranks.specs.Order.{IsOrder}
 use Rattle.mig_base.specs.Reads.{IsNode}
-use Rattle.mig_base.proofs.Amongs.{among-split}
+use Rattle.mig_base.proofs.Amongs.{among-split, pass-all}
 use Rattle.structure.specs.Absorbable.{is_plain, IsAbsorbable}
 use Rattle.board.specs.Joined.{Joined, equations_of}
 use Rattle.joiner.specs.declared.marks.Marks.{Marks}
@@ -32,7 +32,7 @@ use Rattle.joiner.specs.JoinedPart.{ReadsVariables}
 use Rattle.joiner.specs.Marked.{AreNeededNets, marked, unit_at}
 use Rattle.joiner.specs.Pairs.{AreClosed, pair_at, pair_named, pair_by, is_pair, is_listed, is_known, lits_known, terms_known, IsProperPair, AreProper, ReadsPair, Reads, ReadsEither, AreReadings, opposite_reading, IsPairOf, IsNetPair, IsJoinedNode, ReadsNets, ReadPairs, IsWithin, HasPairs}
 use Rattle.joiner.specs.declared.pairs.Pair.{Pair}
-use Rattle.joiner.proofs.Opposites.{not_not, terms_turned, inverted_turned}
+use Rattle.joiner.proofs.Opposites.{terms_turned, inverted_turned}
 use Rattle.joiner.proofs.MirroredLaws.{literal_mirrored}
 use Rattle.joiner.proofs.PairLaws.{pairs_kept, reading_before, reading_after, reads_kept}
 use Rattle.joiner.proofs.OrderLaws.{read_before, new_there}
@@ -49,7 +49,7 @@ module _ (vars : List (Var × Bool)) (a b : Diagram) (pairs : List (Option Pair)
     means = λ p r h.
         is.means p
         ∙ ap not (sum.means (mirror (all_rails vars) p) (opposite_reading r) (reading_before vars a b pairs k proper (mirror (all_rails vars) p) (opposite_reading r) h.mirrored) ∙ terms_turned r true terms)
-        ∙ not_not (terms_read r false terms);
+        ∙ not-not (terms_read r false terms);
   }
 
 -- an inverse that may have failed
@@ -87,11 +87,7 @@ among_listed (w ∷ ws) v (inl e) = ap (λ c. c || is_listed ws v) (same_self w.
 
     same_self : (x v : Var) → v ≡ x → same_var x v ≡ true
     same_self x v e = subst (λ y. same_var x y ≡ true) (sym e) (self x)
-among_listed (w ∷ ws) v (inr a) = ap (λ c. same_var w.0 v || c) (among_listed ws v a) ∙ or_true (same_var w.0 v)
-  where
-    or_true : (c : Bool) → (c || true) ≡ true
-    or_true true = refl
-    or_true false = refl
+among_listed (w ∷ ws) v (inr a) = ap (λ c. same_var w.0 v || c) (among_listed ws v a) ∙ or-true (same_var w.0 v)
 
 pub name_among : (w : Var × Bool) (vs : List (Var × Bool)) → Among w vs → Among w.0 (map (λ (x : Var × Bool). x.0) vs)
 name_among w [] a = absurd a
@@ -151,14 +147,6 @@ module _ (b : Joined) (nets : List (Option ℕ)) (vars : List (Var × Bool)) (d 
       let are = readings_either b nets vars e old (pairs_read_kept b nets vars d e old k proper right) p r v h in
       record { variables = v; nets = put_holds (ReadsPair e p r) old n o (omega (arith, count, is)) (pair_read n o pair p r are h) are.here.nets })
 
-all_from : {T : Type 0} (test : T → Bool) (xs : List T) → ((x : T) → Among x xs → test x ≡ true) → list_all test xs ≡ true
-all_from test [] h = refl
-all_from test (x ∷ xs) h = (λ i. h x (inl refl) i && all_from test xs (λ y a. h y (inr a)) i)
-
-or_true : (c : Bool) → (c || true) ≡ true
-or_true true = refl
-or_true false = refl
-
 -- the table tells whether an absorbed unit drives a marked net
 decided-marked : (b : Joined) (absorbed : List ℕ) (m : Marks) (nets : List (Option ℕ)) → AreNeededNets b absorbed m nets → (n : ℕ) → marked m (Net n) ≡ true
     → ((u : ℕ) × IsAbsorbed b absorbed n u) ⊎ ((u : ℕ) → IsAbsorbed b absorbed n u → ⊥)
@@ -181,7 +169,7 @@ module _ (b : Joined) (absorbed : List ℕ) (marks : Marks) (nets : List (Option
   literal_known terms there within has x s = by x.var refl
     where
       listed : ((n u : ℕ) → x.var ≡ Net n → IsAbsorbed b absorbed n u → ⊥) → is_known vars pairs x.var ≡ true
-      listed free = ap (λ c. is_pair (pair_named pairs x.var) || c) (within x.var (itself x s refl free)) ∙ or_true (is_pair (pair_named pairs x.var))
+      listed free = ap (λ c. is_pair (pair_named pairs x.var) || c) (within x.var (itself x s refl free)) ∙ or-true (is_pair (pair_named pairs x.var))
 
       of_net : (m : ℕ) → x.var ≡ Net m → ((u : ℕ) × IsAbsorbed b absorbed m u) ⊎ ((u : ℕ) → IsAbsorbed b absorbed m u → ⊥) → is_known vars pairs x.var ≡ true
       of_net m e (inl (u, a)) =
@@ -198,8 +186,8 @@ module _ (b : Joined) (absorbed : List ℕ) (marks : Marks) (nets : List (Option
 
   pub all_known : (terms : List VarProduct) → HasMarked marks terms → IsWithin b absorbed vars terms → HasRead terms → terms_known vars pairs terms ≡ true
   all_known terms there within has =
-      all_from (λ (t : VarProduct). lits_known vars pairs t.lits) terms
-      (λ t a. all_from (λ (x : VarLit). is_known vars pairs x.var) t.lits (λ x m. literal_known terms there within has x (record { product = t; among = a; within = m })))
+      pass-all (λ (t : VarProduct). lits_known vars pairs t.lits) terms
+      (λ t a. pass-all (λ (x : VarLit). is_known vars pairs x.var) t.lits (λ x m. literal_known terms there within has x (record { product = t; among = a; within = m })))
 
 -- the pairs of the marked nets that an order has had so far
 abbrev pub HasPairsOf : Joined → List ℕ → Marks → List (Var × Bool) → List (Option Pair) → List Read → Type 0

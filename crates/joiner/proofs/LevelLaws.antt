@@ -7,6 +7,7 @@ use Rattle.mig_base.specs.declared.levels.Level.TheVariants.{Zero, One, Z, X}
 use Rattle.mig_base.specs.declared.nets.Var.{Var}
 use Rattle.mig_base.specs.declared.nets.VarLit.{VarLit}
 use Rattle.mig_base.specs.declared.nets.VarProduct.{VarProduct}
+use Rattle.mig_base.proofs.LevelFacts.{or-known}
 use Rattle.rails.specs.declared.Side.{Side}
 use Rattle.rails.specs.declared.Side.TheVariants.{Pure, High, Low}
 use Rattle.rails.specs.Variables.{all_rails}
@@ -160,21 +161,6 @@ module _ (u : Bool) (l : Levelling) where
       by true = terms_under (not side) sum.terms ∙ sym (under_not u side (terms_level l sum.terms))
       by false = terms_under side sum.terms
 
-or_driven : (a b : Level) → or3 a b ≢ Z
-or_driven One b = λ e. cc
-or_driven Zero Zero = λ e. cc
-or_driven Zero One = λ e. cc
-or_driven Zero Z = λ e. cc
-or_driven Zero X = λ e. cc
-or_driven Z Zero = λ e. cc
-or_driven Z One = λ e. cc
-or_driven Z Z = λ e. cc
-or_driven Z X = λ e. cc
-or_driven X Zero = λ e. cc
-or_driven X One = λ e. cc
-or_driven X Z = λ e. cc
-or_driven X X = λ e. cc
-
 not_driven : (a : Level) → not3 a ≢ Z
 not_driven Zero = λ e. cc
 not_driven One = λ e. cc
@@ -183,7 +169,7 @@ not_driven X = λ e. cc
 
 terms_driven : (l : Levelling) (ts : List VarProduct) → terms_level l ts ≢ Z
 terms_driven l [] = λ e. cc
-terms_driven l (t ∷ ts) = or_driven (product_level l t.lits) (terms_level l ts)
+terms_driven l (t ∷ ts) = or-known (product_level l t.lits) (terms_level l ts)
 
 -- a sum does not float
 pub inverted_driven : (l : Levelling) (sum : Inverted) → inverted_level l sum ≢ Z

@@ -10,7 +10,7 @@ use Rattle.mig_base.specs.First.{made_from}
 use Rattle.mig_base.specs.declared.circuit.Read.TheVariants.{OfRegister}
 use Rattle.mig_base.specs.declared.nets.Var.{Var}
 use Rattle.mig_base.specs.declared.nets.Var.TheVariants.{Net, Reg}
-use Rattle.mig_base.proofs.Amongs.{among-filter, among-left, among-right, among-split, made-among}
+use Rattle.mig_base.proofs.Amongs.{among-filter, among-left, among-right, among-split, made-among, map-among, among-map}
 use Rattle.rails.specs.Variables.{IsBefore, AreRising}
 use Rattle.structure.proofs.NeededNodes.{among-at}
 use Rattle.board.specs.Joined.{Joined, equations_of}
@@ -19,7 +19,6 @@ use Rattle.board.specs.Variables.{IsVariable, register_place}
 use Rattle.board.proofs.ListSteps.{made-push}
 use Rattle.board.proofs.BoardLaws.{read-back, read-node, register-units-long, var-variable}
 use Rattle.joiner.specs.Marked.{all_vars}
-use Rattle.joiner.proofs.PartReads.{among-map}
 
 -- each stands before all that follow
 abbrev pub Rises : List Var → Type 0
@@ -101,11 +100,6 @@ among-place : (u : ℕ) (xs : List ℕ) → Among u xs → (k : ℕ) × (k < len
 among-place u [] a = absurd a
 among-place u (x ∷ xs) (inl e) = (0, omega arith, e)
 among-place u (x ∷ xs) (inr a) = let h = among-place u xs a in let within : h.0 < length xs = h.1 in (suc h.0, omega arith, h.2)
-
-map-among : {T S : Type 0} (f : T → S) (x : T) (xs : List T) → Among x xs → Among (f x) (map f xs)
-map-among f x [] a = absurd a
-map-among f x (y ∷ ys) (inl e) = inl (ap f e)
-map-among f x (y ∷ ys) (inr a) = inr (map-among f x ys a)
 
 -- they are all of them
 pub variable-among : (b : Joined) (v : Var) → IsVariable b v → Among v (all_vars b)

@@ -1,14 +1,11 @@
 -- What the inverted literals read is inverted.
 use Rattle.std.proofs.Common.{◌≡◌, Bool, true, false, not, ◌&&◌, ◌||◌, if◌then◌else◌, refl, sym, ◌∙◌, ap, List, [], ◌∷◌}
 use Rattle.std.specs.List.{list_any, list_all}
+use Rattle.std.proofs.Math.Bool.{not-not}
 use Rattle.mig_base.specs.declared.nets.VarLit.{VarLit}
 use Rattle.mig_base.specs.declared.nets.VarProduct.{VarProduct}
 use Rattle.joiner.specs.Joined.{Inverted, Reading, literal_read, product_read, terms_read, inverted_read}
 use Rattle.joiner.specs.Pairs.{opposite_reading}
-
-pub not_not : (a : Bool) → not (not a) ≡ a
-not_not true = refl
-not_not false = refl
 
 not_and : (a b : Bool) → not (a && b) ≡ (not a || not b)
 not_and true b = refl
@@ -24,7 +21,7 @@ module _ (r : Reading) where
 
   literal_turned : (side : Bool) (x : VarLit) → literal_read turned side x ≡ not (literal_read r (not side) x)
   literal_turned true x = refl
-  literal_turned false x = ap (λ h. not (r x.var h)) (not_not x.high)
+  literal_turned false x = ap (λ h. not (r x.var h)) (not-not x.high)
 
   all_turned : (xs : List VarLit) → list_all (literal_read turned true) xs ≡ not (list_any (literal_read r false) xs)
   all_turned [] = refl

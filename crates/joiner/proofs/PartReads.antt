@@ -1,5 +1,5 @@
 -- The variables that the parts of units name, and what the net of an absorbed unit reads.
-use Rattle.std.proofs.Common.{ℕ, ◌≡◌, Bool, true, false, ◌||◌, List, [], ◌∷◌, map, Option, Some, None, refl, sym, ap, ◌∙◌, subst, inl, inr, eqb-true}
+use Rattle.std.proofs.Common.{ℕ, ◌≡◌, Bool, true, List, [], ◌∷◌, map, Option, Some, None, refl, sym, ap, ◌∙◌, subst, inl, inr}
 use Rattle.std.specs.Prelude.{slice_get}
 use Rattle.std.specs.List.{list_any, flat_map}
 use Rattle.std.proofs.lemmas.Bool.{and_parts}
@@ -25,47 +25,17 @@ use Rattle.mig_base.specs.declared.nets.VarProduct.{VarProduct}
 use Rattle.mig_base.specs.declared.plans.Part.{Part}
 use Rattle.mig_base.specs.declared.plans.Part.TheVariants.{Logic, Enable, Reset, Preset}
 use Rattle.mig_base.specs.Reads.{IsNode}
-use Rattle.mig_base.proofs.Amongs.{among-filter, among-left, among-node, among-right}
+use Rattle.mig_base.proofs.Amongs.{among-filter, among-left, among-node, among-right, any-among, among-map, both-among, among-flat_map}
+use Rattle.mig_base.proofs.ReadLaws.{read-same}
 use Rattle.structure.specs.Absorbable.{is_sum, is_plain}
-use Rattle.structure.specs.Products.{var_of, var_lit, product_over, sum_over, row_over, register_logic, register_preset, register_reset, logic_over, preset_over, reset_over, unit_products, part_of, part_over, part_products}
+use Rattle.structure.specs.Products.{var_by, var_lit, product_over, sum_over, row_over, register_logic, register_preset, register_reset, logic_over, preset_over, reset_over, unit_products, part_of, part_over, part_products}
 use Rattle.structure.specs.Pure.{is_always}
 use Rattle.board.specs.Joined.{Joined, equations_of}
 use Rattle.board.specs.UnitLists.{register_units}
-use Rattle.board.specs.Variables.{IsVariable, var_by}
+use Rattle.board.specs.Variables.{IsVariable}
 use Rattle.board.proofs.BoardLaws.{var-variable}
 use Rattle.joiner.specs.AbsorbedNets.{AreAbsorbable, AreOver}
 use Rattle.joiner.specs.Joined.{IsAbsorbed, StandsIn, part_or_none, unit_part}
-
-read-same : (v w : Read) → same_read v w ≡ true → v ≡ w
-read-same (OfNet n) (OfNet m) e = ap (λ q. OfNet q) (eqb-true n m e)
-read-same (OfRegister n) (OfRegister m) e = ap (λ q. OfRegister q) (eqb-true n m e)
-read-same (OfNet n) (OfRegister m) e = cc
-read-same (OfRegister n) (OfNet m) e = cc
-
-pub among-map : {T S : Type 0} (f : T → S) (y : S) (xs : List T) → Among y (map f xs) → (x : T) × Among x xs × (y ≡ f x)
-among-map f y [] a = absurd a
-among-map f y (x ∷ xs) (inl e) = (x, inl refl, e)
-among-map f y (x ∷ xs) (inr a) = let h = among-map f y xs a in (h.0, inr h.1, h.2)
-
-any-among : {T : Type 0} (p : T → Bool) (xs : List T) → list_any p xs ≡ true → (x : T) × Among x xs × (p x ≡ true)
-any-among p [] e = cc
-any-among {T} p (x ∷ xs) e = at (p x) refl e (any-among p xs)
-  where
-    at : (b : Bool) → p x ≡ b → (b || list_any p xs) ≡ true → (list_any p xs ≡ true → (y : T) × Among y xs × (p y ≡ true)) → (y : T) × Among y (x ∷ xs) × (p y ≡ true)
-    at true is e rest = (x, inl refl, is)
-    at false is e rest = let h = rest e in (h.0, inr h.1, h.2)
-
-among-flat : {T S : Type 0} (f : T → List S) (x : T) (y : S) (xs : List T) → Among x xs → Among y (f x) → Among y (flat_map f xs)
-among-flat f x y [] a b = absurd a
-among-flat f x y (z ∷ zs) (inl e) b = among-left y (f z) (flat_map f zs) (subst (λ w. Among y (f w)) e b)
-among-flat f x y (z ∷ zs) (inr a) b = among-right y (f z) (flat_map f zs) (among-flat f x y zs a b)
-
--- a literal of a product over variables is of a node of the board
-both-among : (y : Literal) (vs : List Read) → Among y (flat_map both_literals vs) → Among y.source vs
-both-among y [] a = absurd a
-both-among y (v ∷ vs) (inl e) = inl (ap (λ (x : Literal). x.source) e)
-both-among y (v ∷ vs) (inr (inl e)) = inl (ap (λ (x : Literal). x.source) e)
-both-among y (v ∷ vs) (inr (inr a)) = inr (both-among y vs a)
 
 literal-node : (c : Circuit) (lits : List Literal) (y : Literal) → Among y (variable_product c lits) → IsNode c y.source
 literal-node c lits y a =
@@ -102,11 +72,7 @@ literal-read c lits y m a e =
 named-literal : (c : Circuit) (units : List ℕ) (lits : List Literal) (x : VarLit) → Among x (product_over c units lits).lits → (y : Literal) × Among y (variable_product c lits) × (x ≡ var_lit units y)
 named-literal c units lits x a = among-map (var_lit units) x (variable_product c lits) a
 
-same-name : (units : List ℕ) (s : Read) → var_of units s ≡ var_by units s
-same-name units (OfNet n) = refl
-same-name units (OfRegister k) = refl
-
-name-net : (units : List ℕ) (s : Read) (m : ℕ) → var_of units s ≡ Net m → s ≡ OfNet m
+name-net : (units : List ℕ) (s : Read) (m : ℕ) → var_by units s ≡ Net m → s ≡ OfNet m
 name-net units (OfNet n) m e = ap OfNet (same-net n m e)
   where
     same-net : (i j : ℕ) → Net i ≡ Net j → i ≡ j
@@ -117,7 +83,7 @@ name-net units (OfRegister k) m e = cc
 over-product : (b : Joined) (lits : List Literal) (x : VarLit) → Among x (product_over (equations_of b) (register_units b.chips) lits).lits → IsVariable b x.var
 over-product b lits x a =
     let y = named-literal (equations_of b) (register_units b.chips) lits x a in
-    let name : x.var ≡ var_by (register_units b.chips) y.0.source = ap (λ (z : VarLit). z.var) y.2 ∙ same-name (register_units b.chips) y.0.source in
+    let name : x.var ≡ var_by (register_units b.chips) y.0.source = ap (λ (z : VarLit). z.var) y.2 in
     subst (IsVariable b) (sym name) (var-variable b y.0.source (literal-node (equations_of b) lits y.0 y.1))
 
 over-none : (b : Joined) → AreOver b []
@@ -190,7 +156,7 @@ sum-read c units terms x m s e =
     let lits = among-map (product_over c units) s.product terms s.among in
     let y = named-literal c units lits.0 x (subst (λ (p : VarProduct). Among x p.lits) lits.2 s.within) in
     let source : y.0.source ≡ OfNet m = name-net units y.0.source m (sym (ap (λ (z : VarLit). z.var) y.2) ∙ e) in
-    among-flat product_reads lits.0 (OfNet m) terms lits.1 (literal-read c lits.0 y.0 m y.1 source)
+    among-flat_map product_reads lits.0 (OfNet m) terms lits.1 (literal-read c lits.0 y.0 m y.1 source)
 
 gives-read : (c : Circuit) (units : List ℕ) (g : Gives) (x : VarLit) (m : ℕ) → is_sum g ≡ true → StandsIn x (logic_over c units g) → x.var ≡ Net m → Among (OfNet m) (gives_reads g)
 gives-read c units (Sum terms) x m is s e = sum-read c units terms x m s e

@@ -2,7 +2,7 @@
 use Rattle.std.proofs.Common.{ℕ, zero, suc, ◌≡◌, ◌⊎◌, ◌<◌, Bool, true, false, List, [], ◌∷◌, length, Option, Some, None, refl, sym, ap, ◌∙◌, subst, inl, inr, arith}
 use Rattle.std.specs.Prelude.{slice_get, if◌then◌else◌}
 use Rattle.std.proofs.lemmas.List.{length-map}
-use Rattle.std.proofs.lemmas.Option.{slice_get_within}
+use Rattle.std.proofs.lemmas.Option.{slice_get_within, same_Some}
 use Rattle.mig_base.specs.Among.{Among}
 use Rattle.mig_base.specs.Boards.{ChipUnit, driver_of, units_from}
 use Rattle.mig_base.specs.Reads.{node_reads}
@@ -17,6 +17,7 @@ use Rattle.mig_base.specs.declared.plans.Part.TheVariants.{Logic}
 use Rattle.ranks.specs.Order.{GoesOn, IsOrder}
 use Rattle.mig_base.specs.Reads.{IsNode}
 use Rattle.mig_base.proofs.Amongs.{among-all}
+use Rattle.mig_base.proofs.ReadLaws.{same-net}
 use Rattle.board.specs.Joined.{Joined, equations_of}
 use Rattle.board.specs.UnitLists.{has_register}
 use Rattle.board.specs.Variables.{IsVariable}
@@ -27,9 +28,6 @@ use Rattle.joiner.specs.Marked.{AreNameMarks, marked, no_marks, with_vars, vars_
 use Rattle.joiner.proofs.Marking.{HasSize, IsWithin, size-none, size-vars, none-marked, vars-kept, vars-raised, vars-there, among-vars, vars-among}
 use Rattle.joiner.proofs.PartReads.{part-over, net-read}
 
-same-some : {T : Type 0} (x y : T) → Some x ≡ Some y → x ≡ y
-same-some x y e = cc
-
 -- the entry of a net
 pub entry-at : (nets : List (Option ℕ)) (n u : ℕ) → unit_at nets n ≡ Some u → slice_get nets n ≡ Some (Some u)
 entry-at [] n u e = cc
@@ -38,7 +36,7 @@ entry-at (o ∷ os) (suc n) u e = entry-at os n u e
 
 pub at-entry : (nets : List (Option ℕ)) (n u : ℕ) → slice_get nets n ≡ Some (Some u) → unit_at nets n ≡ Some u
 at-entry [] n u e = cc
-at-entry (o ∷ os) zero u e = same-some o (Some u) e
+at-entry (o ∷ os) zero u e = same_Some o (Some u) e
 at-entry (o ∷ os) (suc n) u e = at-entry os n u e
 
 -- naming v names w
@@ -127,9 +125,6 @@ goes-apart c before [] x g a b = a
 goes-apart c before (v ∷ vs) x g (inl e) b = g.0 (subst (λ (y : Read). Among y before) e b)
 goes-apart c before (v ∷ vs) x g (inr a) b = goes-apart c (v ∷ before) vs x g.2 a (inr b)
 
-same-net : (n k : ℕ) → OfNet n ≡ OfNet k → n ≡ k
-same-net n k e = cc
-
 register-within : (xs : List ChipUnit) (u : ℕ) → has_register (slice_get xs u) ≡ true → u < length xs
 register-within [] u e = cc
 register-within (x ∷ xs) zero e = omega arith
@@ -155,7 +150,7 @@ closed-behind b absorbed nets m k w before vs are may size goes is closed = all
     same-unit n u e a =
         let here = (are.each k u).1 (subst (λ (i : ℕ). IsAbsorbed b absorbed i u) e a) in
         let there = (are.each k w).1 is in
-        same-some u w (same-some (Some u) (Some w) (sym here ∙ there))
+        same_Some u w (same_Some (Some u) (Some w) (sym here ∙ there))
 
     later : (n u : ℕ) → Among (OfNet n) vs → IsAbsorbed b absorbed n u → (marked m (Net n) ≡ true) ⊎ Among (Net n) (vars_in behind) → (x : VarLit) → StandsIn x (unit_part b u Logic).terms →
         marked (with_vars m (vars_in behind)) x.var ≡ true

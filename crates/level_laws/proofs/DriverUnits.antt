@@ -1,24 +1,15 @@
 -- Each driver of a wiring's board is one of its units.
-use Rattle.std.proofs.Common.{ℕ, zero, suc, ◌≡◌, ◌<◌, ◌+◌, Bool, true, false, List, [], ◌∷◌, ◌++◌, length, arith, inl, inr}
-use Rattle.std.specs.Prelude.{slice_get, if◌then◌else◌}
+use Rattle.std.proofs.Common.{ℕ, zero, suc, ◌≡◌, ◌<◌, ◌+◌, List, [], ◌∷◌, length, arith}
+use Rattle.std.specs.Prelude.{slice_get}
 use Rattle.std.proofs.lemmas.List.{length-map}
 use Rattle.mig_base.specs.declared.cells.ChipCells.{ChipCells}
 use Rattle.mig_base.specs.declared.nets.Net.{Net}
 use Rattle.mig_base.specs.declared.nets.Pull.{Pull}
 use Rattle.mig_base.specs.declared.circuit.NetKind.{NetKind}
-use Rattle.mig_base.specs.Among.{Among}
-use Rattle.mig_base.specs.Boards.{ChipUnit, circuit, driver_of, drives, kinds_of, places_from, units_from, wires_from}
+use Rattle.mig_base.specs.Boards.{ChipUnit, circuit, driver_of, drives, kinds_of, units_from, wires_from}
+use Rattle.mig_base.proofs.PlaceLaws.{places-within}
 use Rattle.structure.specs.Live.{DrivesWire}
 use Rattle.level_laws.specs.PureLevels.{DriversAreUnits}
-
-places-within : {T : Type 0} (test : T → Bool) (i : ℕ) (xs : List T) (u : ℕ) → Among u (places_from test i xs) → u < i + length xs
-places-within test i [] u a = absurd a
-places-within test i (x ∷ xs) u a = at (test x) a (places-within test (i + 1) xs u)
-  where
-    at : (b : Bool) → Among u ((if b then i ∷ [] else []) ++ places_from test (i + 1) xs) → (Among u (places_from test (i + 1) xs) → u < i + 1 + length xs) → u < i + length (x ∷ xs)
-    at true (inl e) later = omega arith
-    at true (inr m) later = let low : u < i + 1 + length xs = later m in omega arith
-    at false m later = let low : u < i + 1 + length xs = later m in omega arith
 
 wires-within : (net : Net) (units : List ChipUnit) (n : ℕ) (ks : List (NetKind × Pull)) (m u : ℕ) → DrivesWire u (slice_get (wires_from net units n ks) m) → u < length units
 wires-within net units n [] m u a = absurd a

@@ -23,13 +23,14 @@ use Rattle.level_laws.specs.Runs.{taken}
 use Rattle.level_laws.specs.SameBehaviour.{IsBit, IsHandable}
 use Rattle.level_laws.specs.Settled.{gives_level, gated, drive_level}
 use Rattle.level_laws.proofs.Unique.{all_left, all_right}
-use Rattle.structure.specs.Pure.{is_pulled, is_always}
+use Rattle.mig_base.specs.WrittenBoard.{is_pulled}
+use Rattle.structure.specs.Pure.{is_always}
 
 -- a node at 0 or 1
 abbrev pub IsBitAt : Levels → Read → Type 0
 IsBitAt l v = IsBit (node_level l v)
 
-read-bit : (a : Level) → IsBit a → IsBit (read_level a)
+pub read-bit : (a : Level) → IsBit a → IsBit (read_level a)
 read-bit Zero h = tt
 read-bit One h = tt
 read-bit Z h = absurd h

@@ -21,12 +21,14 @@ use Rattle.mig_base.specs.Levels.{level_at, or_x}
 use Rattle.mig_base.specs.Reads.{IsNode, driver_reads, edge_reads, node_reads, reads_of_register, reads_of_wire, wire_reads}
 use Rattle.mig_base.specs.Resolve.{resolved}
 use Rattle.mig_base.specs.Values.{node_level, sum_reads, row_reads}
+use Rattle.mig_base.proofs.ListLaws.{all-get}
 use Rattle.level_laws.specs.SameBehaviour.{IsBit, IsLawful, IsLawfulAt}
 use Rattle.level_laws.specs.Settled.{IsSettled, drive_level, level_by, visible_levels, wire_level}
 use Rattle.ranks.proofs.NoLoops.{nodes-loop}
 use Rattle.level_laws.proofs.Unique.{all_left, level_at-map}
 use Rattle.structure.specs.Live.{DrivesWire}
-use Rattle.structure.specs.Pure.{always_enabled, is_pulled, net_rule, pure_driven, pure_kind, pure_rule, register_rule, IsPureSet}
+use Rattle.mig_base.specs.WrittenBoard.{is_pulled}
+use Rattle.structure.specs.Pure.{always_enabled, net_rule, pure_driven, pure_kind, pure_rule, register_rule, IsPureSet}
 use Rattle.level_laws.specs.PureLevels.{DriversAreUnits, HasPureLevels, HasPureStored}
 use Rattle.level_laws.proofs.PureBits.{IsBitAt, driven-bit, pulled-bit, seen-bit}
 
@@ -39,14 +41,6 @@ all-in set l [] e h = tt
 all-in set l (v ∷ vs) e h =
     let parts = and_parts (set v) (list_all set vs) e in
     (h.0 parts.0, all-in set l vs parts.1 h.1)
-
-all-of : {T : Type 0} (P : T → Type 0) (ts : List T) (n : ℕ) (t : T) → AllByRecursion P ts → slice_get ts n ≡ Some t → P t
-all-of P [] n t h e = cc
-all-of {T} P (x ∷ xs) zero t h e = subst P (same x t e) h.0
-  where
-    same : (a b : T) → Some a ≡ Some b → a ≡ b
-    same a b e = cc
-all-of P (x ∷ xs) (suc n) t h e = all-of P xs n t h.1 e
 
 unit-there : (c : Circuit) (u : ℕ) → u < length c.units → slice_get c.units u ≡ None → ⊥
 unit-there c u within none = at c.units u within none
@@ -121,7 +115,7 @@ node-bit c stored inputs l set g pure (OfNet n) h reads =
     at None e rule reads = cc
     at (Some w) e rule reads =
         wire-bit c inputs l set w g.settled.drives (λ u a. g.units n u (subst (DrivesWire u) (sym e) a))
-        (all-of (λ (q : Wire). IsLawfulAt inputs q.kind) c.nets n w g.lawful e) rule reads
+        (all-get (λ (q : Wire). IsLawfulAt inputs q.kind) c.nets n w g.lawful e) rule reads
 node-bit c stored inputs l set g pure (OfRegister k) h reads =
     subst (λ (ls : List Level). IsBit (level_at ls k)) (sym g.settled.visible) (at (slice_get c.registers k) refl (pure (OfRegister k) h) reads)
   where

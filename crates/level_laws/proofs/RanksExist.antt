@@ -1,7 +1,7 @@
 -- A board without loops has ranks: nodes that read only such nodes as are done are done next, and where none is left to be, all are.
 use Rattle.std.proofs.Common.{ℕ, zero, suc, ◌≡◌, ◌⊎◌, ◌<◌, ◌≤◌, Bool, true, false, not, cond, List, [], ◌∷◌, filter, length, Option, None, refl, sym, ap, ◌∙◌, subst, arith, inl, inr}
 use Rattle.std.specs.List.{AllByRecursion}
-use Rattle.std.proofs.lemmas.Bool.{cases_lt}
+use Rattle.std.proofs.lemmas.Bool.{cases_lt, not-true}
 use Rattle.mig_base.specs.declared.levels.Level.{Level}
 use Rattle.mig_base.specs.declared.circuit.Read.{Read}
 use Rattle.mig_base.specs.declared.circuit.Read.TheVariants.{OfNet, OfRegister}
@@ -11,7 +11,6 @@ use Rattle.mig_base.specs.Among.{Among}
 use Rattle.mig_base.specs.Reads.{node_reads, IsNode}
 use Rattle.mig_base.specs.Structure.{same_read, all_variables}
 use Rattle.mig_base.proofs.Amongs.{filter-among, among-filter, node-among, among-node}
-use Rattle.mig_base.proofs.ListLaws.{not-true}
 use Rattle.mig_base.proofs.ReadLaws.{read-same, same-read}
 use Rattle.ranks.proofs.NoLoops.{nodes-loop}
 use Rattle.level_laws.specs.Runs.{IsRun, IsRunFrom, power_up}

@@ -2,6 +2,7 @@
 use Rattle.std.proofs.Common.{ℕ, zero, suc, ◌≡◌, ◌+◌, ◌*◌, ◌≤◌, Bool, true, false, not, ◌||◌, ◌&&◌, if◌then◌else◌, filter, List, [], ◌∷◌, map, drop, length, refl, sym, ap, ◌∙◌, subst, arith, IsTrue, eqb, eq-eqb, min}
 use Rattle.std.specs.List.{AllByRecursion}
 use Rattle.std.proofs.lemmas.List.{length-take}
+use Rattle.std.proofs.Math.Bool.{or-true}
 use Rattle.mig_base.specs.declared.kinds.Kind.{Kind}
 use Rattle.mig_base.specs.declared.kinds.Mode.{Mode}
 use Rattle.mig_base.specs.declared.cells.Lit.{Lit}
@@ -16,7 +17,7 @@ use Rattle.mig_base.specs.DeviceTables.{cell_pins, enable_pin, rows_22, pal_regi
 use Rattle.mig_base.specs.Cells as cells
 use Rattle.mig_base.specs.Cells.{is_among, row_at, row_of}
 use Rattle.mig_base.specs.WellFormed.{has_mode, is_reg, is_simple, is_registered, is_never, is_always, has_enable_row, is_low_pin, most_terms, registers_in, chip_columns, FitsCell, IsWellFormed, fits_row, fits_control}
-use Rattle.mig_base.proofs.ListLaws.{filter-map, or-certain}
+use Rattle.mig_base.proofs.ListLaws.{filter-map}
 use Rattle.devices.proofs.RowLaws.{IsDistinct, FitsColumns}
 use Rattle.devices.proofs.ReadRows.{row-fits}
 
@@ -37,10 +38,6 @@ few-terms (row.Product lits ∷ rows) = let few = few-terms rows in omega arith
 pub all-made : {T : Type 0} (P : T → Type 0) (f : ℕ → T) (first n : ℕ) → ((r : ℕ) → P (f r)) → AllByRecursion P (made_from f first n)
 all-made P f first zero h = tt
 all-made P f first (suc n) h = (h first, all-made P f (first + 1) n h)
-
-pub long-made : {T : Type 0} (f : ℕ → T) (first n : ℕ) → length (made_from f first n) ≡ n
-long-made f first zero = refl
-long-made f first (suc n) = let rest : length (made_from f (first + 1) n) ≡ n = long-made f (first + 1) n in omega arith
 
 -- a row of an array fits its columns
 pub array-row-fits : (columns : List Lit) (width : ℕ) (bits : List Bool) (r : ℕ) → IsDistinct columns → length columns ≡ width → FitsColumns columns (row_of columns (row_at width bits r))
@@ -111,7 +108,7 @@ register-fits k m columns pin low rows t f room =
     let few : length (cells.terms_of rows) ≤ 8 = (let all = few-terms rows in omega arith) in
     record {
       form = ap (λ (b : Bool). b || (is_registered m || is_among (pal_registers k) pin)) t.not_22 ∙ t.form;
-      inversions = ap (λ (b : Bool). b && (is_22 k || true)) t.inversion ∙ or-certain (is_22 k);
+      inversions = ap (λ (b : Bool). b && (is_22 k || true)) t.inversion ∙ or-true (is_22 k);
       enable = low-pin-itself (enable_pin k) (is_22 k) (is_never (enable.LowPin (enable_pin k)) || has_enable_row columns (enable.LowPin (enable_pin k))) t.not_22;
       count = subst (λ (b : Bool). length (cells.terms_of rows) ≤ (if b then (rows_22 pin).1 else 8)) (sym t.not_22) few;
       terms = terms-read-fit columns rows f;
@@ -130,7 +127,7 @@ register-row-fits k m columns pin pin_low (first ∷ rows) t f long =
     let few : length (cells.terms_of rows) ≤ (rows_22 pin).1 = (let all = few-terms rows in omega arith) in
     record {
       form = ap (λ (b : Bool). b || (is_registered m || is_among (pal_registers k) pin)) t;
-      inversions = ap (λ (b : Bool). b && (is_22 k || pin_low)) (or-certain (is_v8 k)) ∙ ap (λ (b : Bool). b || pin_low) t;
+      inversions = ap (λ (b : Bool). b && (is_22 k || pin_low)) (or-true (is_v8 k)) ∙ ap (λ (b : Bool). b || pin_low) t;
       enable = ap (λ (b : Bool). if b then is_never (cells.enable_of first) || has_enable_row columns (cells.enable_of first) else is_low_pin (enable_pin k) (cells.enable_of first)) t ∙ own-enable columns first f.0;
       count = subst (λ (b : Bool). length (cells.terms_of rows) ≤ (if b then (rows_22 pin).1 else 8)) (sym t) few;
       terms = terms-read-fit columns rows f.1;
@@ -148,7 +145,7 @@ comb-form pin low [] = refl
 comb-form pin low (row.Never ∷ rows) = refl
 comb-form pin low (row.Product lits ∷ rows) = refl
 
-map-pins : (f : ℕ → Cell) (pins : List ℕ) → ((pin : ℕ) → (f pin).pin ≡ pin) → map (λ (cell : Cell). cell.pin) (map f pins) ≡ pins
+pub map-pins : (f : ℕ → Cell) (pins : List ℕ) → ((pin : ℕ) → (f pin).pin ≡ pin) → map (λ (cell : Cell). cell.pin) (map f pins) ≡ pins
 map-pins f [] h = refl
 map-pins f (p ∷ ps) h = ap (λ (q : ℕ). q ∷ map (λ (cell : Cell). cell.pin) (map f ps)) (h p) ∙ ap (λ (rest : List ℕ). p ∷ rest) (map-pins f ps h)
 

@@ -1,6 +1,7 @@
 -- The cells that fuses make are well formed, of each of the twelve kinds.
 use Rattle.std.proofs.Common.{ℕ, suc, ◌≡◌, ◌+◌, ◌*◌, ◌≤◌, Bool, true, false, not, ◌||◌, ◌&&◌, if◌then◌else◌, filter, List, [], ◌∷◌, length, refl, sym, ap, ◌∙◌, subst, arith, IsTrue, Result, Ok, Err, Option, Some, None}
 use Rattle.std.specs.List.{AllByRecursion}
+use Rattle.std.proofs.Math.Bool.{or-true}
 use Rattle.mig_base.specs.declared.kinds.Kind.{Kind}
 use Rattle.mig_base.specs.declared.kinds.Kind.TheVariants.{Gal16V8, Gal20V8, Gal22V10, Gal22V10Q}
 use Rattle.mig_base.specs.declared.kinds.Mode.{Mode}
@@ -20,11 +21,11 @@ use Rattle.mig_base.specs.Cells as cells
 use Rattle.mig_base.specs.Cells.{is_among}
 use Rattle.mig_base.specs.Given.{IsMade}
 use Rattle.mig_base.specs.WellFormed.{has_mode, is_reg, is_registered, most_terms, FitsCell, IsWellFormed, fits_row, fits_control}
-use Rattle.mig_base.proofs.ListLaws.{or-certain}
+use Rattle.mig_base.proofs.ListLaws.{length-made_from}
 use Rattle.devices.proofs.RowLaws.{FitsColumns, distinct_pins, columns-distinct, length-columns}
 use Rattle.devices.proofs.MacrocellLaws.{IsV8Table, v8-table, v8-width, v8-distinct}
 use Rattle.devices.proofs.V22Tables.{IsV22Table, v22-table, v22-width, v22-distinct}
-use Rattle.made_cells.proofs.CellsFit.{all-made, long-made, array-row-fits, idle-fits, TakesOutput, comb-fits, output-fits, register-fits, register-row-fits, comb-pin, comb-form, chip_of, chip-well}
+use Rattle.made_cells.proofs.CellsFit.{all-made, array-row-fits, idle-fits, TakesOutput, comb-fits, output-fits, register-fits, register-row-fits, comb-pin, comb-form, chip_of, chip-well}
 
 all-false : {T : Type 0} (xs : List T) → filter (λ (x : T). false) xs ≡ []
 all-false [] = refl
@@ -61,9 +62,9 @@ pal-form k pin false rows = comb-form pin true rows
 
 pal-fits : (k : Kind) (columns : List Lit) (pin : ℕ) (b : Bool) (rows : List Row) → IsPal k → is_among (pal_registers k) pin ≡ b →
     AllByRecursion (FitsColumns columns) rows → length rows ≤ 8 → FitsCell k Fixed columns (pal_cell_by k pin b rows)
-pal-fits k columns pin true rows t e f room = register-fits k Fixed columns pin false rows (record { form = e; inversion = or-certain (is_v8 k); not_22 = t.not_22 }) f room
+pal-fits k columns pin true rows t e f room = register-fits k Fixed columns pin false rows (record { form = e; inversion = or-true (is_v8 k); not_22 = t.not_22 }) f room
 pal-fits k columns pin false rows t e f room =
-    comb-fits k Fixed columns pin true rows 7 (record { not_register = ap not e; inversion = or-certain (is_gal k); most = t.most pin }) refl f room
+    comb-fits k Fixed columns pin true rows 7 (record { not_register = ap not e; inversion = or-true (is_gal k); most = t.most pin }) refl f room
 
 pub pal-well : (k : Kind) → IsTrue (is_pal k) → (bits : List Bool) → IsWellFormed (cells.pal_cells k bits)
 pal-well k h bits =
@@ -139,7 +140,7 @@ row-or-never : (columns : List Lit) (b : Bool) (r : Row) → FitsColumns columns
 row-or-never columns true r h = h
 row-or-never columns false r h = tt
 
-abbrev v8_chip : Kind → Mode → List Bool → ChipCells
+abbrev pub v8_chip : Kind → Mode → List Bool → ChipCells
 v8_chip k m bits = chip_of k m (cells.v8_cell k m bits) row.Never row.Never
 
 pub v8-well : (k : Kind) (m : Mode) → IsTrue (is_v8 k) → IsTrue (has_mode k m) → (bits : List Bool) → IsWellFormed (v8_chip k m bits)
@@ -173,7 +174,7 @@ v22-fits k columns true low pin rows h f long =
     comb-fits k Fixed columns pin low rows (rows_22 pin).1
     (record {
       not_register = v22-not-register k pin h;
-      inversion = ap (λ (b : Bool). (is_v8 k || b) || low) h ∙ ap (λ (b : Bool). b || low) (or-certain (is_v8 k));
+      inversion = ap (λ (b : Bool). (is_v8 k || b) || low) h ∙ ap (λ (b : Bool). b || low) (or-true (is_v8 k));
       most = ap (λ (b : Bool). if b then (rows_22 pin).1 else 7) h;
     }) refl f (omega arith)
 v22-fits k columns false low pin rows h f long = register-row-fits k Fixed columns pin low rows h f long
@@ -208,7 +209,7 @@ v22-well k h bits =
     let columns = cells.columns_of k Fixed registers in
     let row_fits : (r : ℕ) → FitsColumns columns (cells.row_22 k bits r) = λ r. array-row-fits columns 44 bits r (v22-distinct k registers h) (v22-width k registers h) in
     let rows : ℕ → List Row = λ pin. made_from (cells.row_22 k bits) (rows_22 pin).0 ((rows_22 pin).1 + 1) in
-    let long : (pin : ℕ) → length (rows pin) ≡ suc (rows_22 pin).1 = λ pin. long-made (cells.row_22 k bits) (rows_22 pin).0 ((rows_22 pin).1 + 1) ∙ omega arith in
+    let long : (pin : ℕ) → length (rows pin) ≡ suc (rows_22 pin).1 = λ pin. length-made_from (cells.row_22 k bits) (rows_22 pin).0 ((rows_22 pin).1 + 1) ∙ omega arith in
     let fit : (pin : ℕ) → AllByRecursion (FitsColumns columns) (rows pin) = λ pin. all-made (FitsColumns columns) (cells.row_22 k bits) (rows_22 pin).0 ((rows_22 pin).1 + 1) row_fits in
     chip-well k Fixed columns (λ pin. not (cells.s1_at bits pin)) (cells.cell_22 k bits) (cells.row_22 k bits 0) (cells.row_22 k bits 131)
     (record {
@@ -221,7 +222,7 @@ v22-well k h bits =
 
 -- what is read is one of these
 
-abbrev Told : Type 0
+abbrev pub Told : Type 0
 Told = Result ChipCells ChipError
 
 read-is : (x c : ChipCells) → (let told : Told = Ok x in told) ≡ Ok c → IsWellFormed x → IsWellFormed c
@@ -243,7 +244,7 @@ kind-read k bits c true of_v8 h g e = read-is (cells.cells_22 k bits) c e (v22-w
 kind-read k bits c false true h g e = v8-read k bits c (cells.syn k bits) (cells.ac0 k bits) g e
 kind-read k bits c false false h g e = read-is (cells.pal_cells k bits) c e (pal-well k (ap (λ (b : Bool). not (b || is_22 k)) g ∙ ap not h) bits)
 
-counted : (b : Bool) (x : Told) (r : ChipError) (c : ChipCells) → (if b then x else Err r) ≡ Ok c → x ≡ Ok c
+pub counted : (b : Bool) (x : Told) (r : ChipError) (c : ChipCells) → (if b then x else Err r) ≡ Ok c → x ≡ Ok c
 counted true x r c e = e
 counted false x r c e = cc
 

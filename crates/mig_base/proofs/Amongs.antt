@@ -1,14 +1,16 @@
 -- Items of lists, and the nodes of a board.
-use Rattle.std.proofs.Common.{ℕ, zero, suc, ◌≡◌, ◌⊎◌, ◌<◌, ◌≤◌, ◌+◌, Bool, true, false, cond, List, [], ◌∷◌, ◌++◌, map, filter, length, refl, sym, ap, ◌∙◌, subst, arith, inl, inr}
-use Rattle.std.proofs.lemmas.Bool.{cases_eq}
-use Rattle.std.specs.List.{AllByRecursion, flat_map}
+use Rattle.std.proofs.Common.{ℕ, zero, suc, ◌≡◌, ◌⊎◌, ◌<◌, ◌≤◌, ◌+◌, Bool, true, false, cond, ◌||◌, ◌&&◌, Option, Some, List, [], ◌∷◌, ◌++◌, map, filter, length, refl, sym, ap, ◌∙◌, subst, arith, inl, inr}
+use Rattle.std.proofs.lemmas.Bool.{cases_eq, or_right, and_from}
+use Rattle.std.specs.List.{AllByRecursion, flat_map, list_any, list_all, slice_get}
 use Rattle.mig_base.specs.declared.circuit.Read.{Read}
 use Rattle.mig_base.specs.declared.circuit.Read.TheVariants.{OfNet, OfRegister}
+use Rattle.mig_base.specs.declared.circuit.Literal.{Literal}
 use Rattle.mig_base.specs.declared.circuit.Circuit.{Circuit}
 use Rattle.mig_base.specs.First.{made_from}
 use Rattle.mig_base.specs.Among.{Among, IsApart}
-use Rattle.mig_base.specs.Structure.{all_variables}
+use Rattle.mig_base.specs.Structure.{all_variables, both_literals, same_literal, variable_literal, variable_product}
 use Rattle.mig_base.specs.Reads.{IsNode}
+use Rattle.mig_base.proofs.ReadLaws.{literal-same}
 
 pub among-left : {T : Type 0} (x : T) (xs ys : List T) → Among x xs → Among x (xs ++ ys)
 among-left x [] ys a = absurd a
@@ -126,3 +128,61 @@ pub among-map : {T S : Type 0} (f : T → S) (y : S) (xs : List T) → Among y (
 among-map f y [] a = absurd a
 among-map f y (x ∷ xs) (inl e) = (x, inl refl, e)
 among-map f y (x ∷ xs) (inr a) = let h = among-map f y xs a in (h.0, inr h.1, h.2)
+
+pub map-among : {T S : Type 0} (f : T → S) (x : T) (xs : List T) → Among x xs → Among (f x) (map f xs)
+map-among f x [] a = absurd a
+map-among f x (y ∷ ys) (inl e) = inl (ap f e)
+map-among f x (y ∷ ys) (inr a) = inr (map-among f x ys a)
+
+-- an item that passes, and a list that has one
+
+pub any-among : {T : Type 0} (test : T → Bool) (xs : List T) → list_any test xs ≡ true → (x : T) × Among x xs × (test x ≡ true)
+any-among test [] e = cc
+any-among {T} test (y ∷ ys) e = at (test y) refl e (any-among test ys)
+  where
+    at : (q : Bool) → test y ≡ q → (q || list_any test ys) ≡ true → (list_any test ys ≡ true → (x : T) × Among x ys × (test x ≡ true)) → (x : T) × Among x (y ∷ ys) × (test x ≡ true)
+    at true is e rest = (y, inl refl, is)
+    at false is e rest = let r = rest e in (r.0, inr r.1, r.2)
+
+pub among-any : {T : Type 0} (test : T → Bool) (x : T) (xs : List T) → Among x xs → test x ≡ true → list_any test xs ≡ true
+among-any test x [] a e = absurd a
+among-any test x (y ∷ ys) (inl same) e = ap (λ (q : Bool). q || list_any test ys) (ap test (sym same) ∙ e)
+among-any test x (y ∷ ys) (inr a) e = or_right (test y) (list_any test ys) (among-any test x ys a e)
+
+pub pass-all : {T : Type 0} (test : T → Bool) (xs : List T) → ((x : T) → Among x xs → test x ≡ true) → list_all test xs ≡ true
+pass-all test [] f = refl
+pass-all test (y ∷ ys) f = and_from (test y) (list_all test ys) (f y (inl refl)) (pass-all test ys (λ x a. f x (inr a)))
+
+pub among-get : {T : Type 0} (xs : List T) (i : ℕ) (x : T) → slice_get xs i ≡ Some x → Among x xs
+among-get [] i x e = cc
+among-get (y ∷ ys) zero x e = inl cc
+among-get (y ∷ ys) (suc i) x e = inr (among-get ys i x e)
+
+pub among-flat_map : {T S : Type 0} (f : T → List S) (x : T) (y : S) (xs : List T) → Among x xs → Among y (f x) → Among y (flat_map f xs)
+among-flat_map f x y [] a b = absurd a
+among-flat_map f x y (z ∷ zs) (inl e) b = among-left y (f z) (flat_map f zs) (subst (λ q. Among y (f q)) e b)
+among-flat_map f x y (z ∷ zs) (inr a) b = among-right y (f z) (flat_map f zs) (among-flat_map f x y zs a b)
+
+-- an item that is neither among a list nor the one pushed to it
+pub apart-push : (n other : ℕ) (before : List ℕ) → (Among n before → ⊥) → (other ≡ n → ⊥) → Among n (before ++ other ∷ []) → ⊥
+apart-push n other before new ne a = at (among-split n before (other ∷ []) a)
+  where
+    at : Among n before ⊎ Among n (other ∷ []) → ⊥
+    at (inl b) = new b
+    at (inr (inl e)) = ne (sym e)
+    at (inr (inr none)) = absurd none
+
+-- each literal of both signs of some nodes reads one of them
+pub both-among : (y : Literal) (vs : List Read) → Among y (flat_map both_literals vs) → Among y.source vs
+both-among y [] a = absurd a
+both-among y (v ∷ vs) (inl e) = inl (ap (λ (x : Literal). x.source) e)
+both-among y (v ∷ vs) (inr (inl e)) = inl (ap (λ (x : Literal). x.source) e)
+both-among y (v ∷ vs) (inr (inr a)) = inr (both-among y vs a)
+
+-- each literal of a product over variables stands for one of the product
+pub product-among : (c : Circuit) (y : Literal) (lits : List Literal) → Among y (variable_product c lits) → (x : Literal) × Among x lits × (y ≡ variable_literal c x)
+product-among c y lits a =
+    let kept = (among-filter (λ z. list_any (same_literal z) (map (variable_literal c) lits)) y (flat_map both_literals (all_variables c)) a).0 in
+    let found = any-among (same_literal y) (map (variable_literal c) lits) kept in
+    let old = among-map (variable_literal c) found.0 lits found.1 in
+    (old.0, old.1, literal-same y found.0 found.2 ∙ old.2)

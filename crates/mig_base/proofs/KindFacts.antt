@@ -1,5 +1,5 @@
 -- Facts that hold of every kind of chip.
-use Rattle.std.proofs.Common.{ℕ, zero, suc, ◌≡◌, ◌≤◌, Bool, true, List, [], ◌∷◌, Some, refl, sym, ap, ◌∙◌}
+use Rattle.std.proofs.Common.{ℕ, zero, suc, ◌≡◌, ◌≤◌, Bool, true, List, [], ◌∷◌, length, lit≤, Some, refl, sym, ap, ◌∙◌}
 use Rattle.std.specs.Prelude.{nat_le, not, ◌==◌, ◌&&◌}
 use Rattle.std.specs.List.{list_all, slice_get}
 use Rattle.std.proofs.lemmas.Bool.{and_parts, leb-true}
@@ -55,3 +55,7 @@ kind-read Gal16V8 = refl
 kind-read Gal20V8 = refl
 kind-read Gal22V10 = refl
 kind-read Gal22V10Q = refl
+
+pub kind-name-length : (k : Kind) → length (kind_name k) ≤ 9
+kind-name-length Pal16L8 = lit≤ tt
+kind-name-length _ = lit≤ tt

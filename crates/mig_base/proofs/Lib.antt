@@ -2,5 +2,8 @@ pub mod TextLemmas
 pub mod KindFacts
 pub mod Distinct
 pub mod ListLaws
-pub mod Amongs
 pub mod ReadLaws
+pub mod Amongs
+pub mod PlaceLaws
+pub mod LevelFacts
+pub mod Aliases

@@ -1,14 +1,32 @@
 -- Tests and lists: pieces of one width, what holds at each place, filters of images.
-use Rattle.std.proofs.Common.{ℕ, zero, suc, ◌≡◌, ◌+◌, ◌-◌, ◌*◌, ◌<◌, ◌≤◌, Bool, true, false, not, ◌||◌, ◌&&◌, if◌then◌else◌, filter, reverse, List, [], ◌∷◌, ◌++◌, map, take, drop, length, get_or, refl, sym, ap, ◌∙◌, subst, arith, add-zero}
-use Rattle.std.specs.List.{AllByRecursion, flat_map}
+use Rattle.std.proofs.Common.{ℕ, zero, suc, ◌≡◌, ◌+◌, ◌-◌, ◌*◌, ◌<◌, ◌≤◌, Bool, true, false, not, Option, Some, None, ◌||◌, ◌&&◌, if◌then◌else◌, filter, reverse, List, [], ◌∷◌, ◌++◌, map, take, drop, length, get_or, refl, sym, ap, ◌∙◌, subst, arith, add-zero}
+use Rattle.std.specs.List.{AllByRecursion, flat_map, slice_get}
 use Rattle.std.proofs.lemmas.List.{append_assoc, take_at, drop_at, drop-drop, drop_more, length-append, length-map}
 use Rattle.mig_base.specs.First.{made_from}
-use Rattle.std.proofs.lemmas.List.{append_assoc, take_at, length-append, length-map, length-reverse, get_or_append_left, get_or-append-add, get_or-map, get_or-reverse}
+use Rattle.std.proofs.Math.Seq.{take-length}
+use Rattle.std.proofs.lemmas.Option.{same_Some}
+use Rattle.std.proofs.lemmas.List.{length-drop, length-append, length-map, length-reverse, get_or_append_left, get_or-append-add, get_or-map, get_or-reverse}
 
 pub and-true : (a b : Bool) → (a && b) ≡ true → (a ≡ true) × (b ≡ true)
 and-true true true e = (refl, refl)
 and-true true false e = cc
 and-true false b e = cc
+
+pub not-true : (b : Bool) → not b ≡ true → b ≡ false
+not-true true e = cc
+not-true false e = refl
+
+pub not-twice : (b : Bool) → not (not b) ≡ b
+not-twice true = refl
+not-twice false = refl
+
+pub or-unit : (b : Bool) → (b || false) ≡ b
+or-unit true = refl
+or-unit false = refl
+
+pub or-certain : (b : Bool) → (b || true) ≡ true
+or-certain true = refl
+or-certain false = refl
 
 pub or-false : (a b : Bool) → (a || b) ≡ false → b ≡ false
 or-false true b e = cc
@@ -25,14 +43,6 @@ and-right false b e = cc
 pub or-left : (a b : Bool) → b ≡ false → (a || b) ≡ true → a ≡ true
 or-left true b f e = refl
 or-left false b f e = cc
-
-pub not-true : (b : Bool) → not b ≡ true → b ≡ false
-not-true true e = cc
-not-true false e = refl
-
-pub not-twice : (b : Bool) → not (not b) ≡ b
-not-twice true = refl
-not-twice false = refl
 
 pub length-pieces : {A B : Type 0} (g : A → List B) (w : ℕ) (xs : List A) → AllByRecursion (λ (x : A). length (g x) ≡ w) xs → length (flat_map g xs) ≡ w * length xs
 length-pieces g w [] h = omega arith
@@ -136,10 +146,38 @@ made-push f before now done n e h =
     e ∙ ap (λ xs. xs ++ f n ∷ []) h ∙ append_assoc done (made_from f 0 n) (f n ∷ [])
     ∙ ap (λ xs. done ++ xs) (sym (made_from-more f 0 n (n + 1) refl ∙ ap (λ (k : ℕ). made_from f 0 n ++ f k ∷ []) (omega arith)))
 
-pub or-unit : (b : Bool) → (b || false) ≡ b
-or-unit true = refl
-or-unit false = refl
+pub length-made_from : {T : Type 0} (f : ℕ → T) (first n : ℕ) → length (made_from f first n) ≡ n
+length-made_from f first zero = refl
+length-made_from f first (suc n) = ap suc (length-made_from f (first + 1) n)
 
-pub or-certain : (b : Bool) → (b || true) ≡ true
-or-certain true = refl
-or-certain false = refl
+pub all-each : {A : Type 0} (P Q : A → Type 0) (xs : List A) → ((x : A) → P x → Q x) → AllByRecursion P xs → AllByRecursion Q xs
+all-each P Q xs f h = all-map P Q xs h f
+
+pub all-get : {A : Type 0} (P : A → Type 0) (xs : List A) (i : ℕ) (x : A) → AllByRecursion P xs → slice_get xs i ≡ Some x → P x
+all-get P [] i x h e = cc
+all-get P (y ∷ ys) zero x h e = subst P (same_Some y x e) h.0
+all-get P (y ∷ ys) (suc i) x h e = all-get P ys i x h.1 e
+
+-- an index within a list, and one past its end
+
+pub item-at : {A : Type 0} (xs : List A) (i : ℕ) → i < length xs → (x : A) × (slice_get xs i ≡ Some x)
+item-at [] i h = absurd (omega arith)
+item-at (x ∷ xs) zero h = (x, refl)
+item-at (x ∷ xs) (suc i) h = item-at xs i (omega arith)
+
+pub get-past : {A : Type 0} (xs : List A) (i : ℕ) → slice_get xs i ≡ None → length xs ≤ i
+get-past [] i e = omega arith
+get-past (x ∷ xs) zero e = cc
+get-past (x ∷ xs) (suc i) e = omega (arith, get-past xs i e)
+
+pub snoc-append : {A : Type 0} (xs : List A) (y : A) (ys : List A) → (xs ++ y ∷ []) ++ ys ≡ xs ++ y ∷ ys
+snoc-append xs y ys = append_assoc xs (y ∷ []) ys
+
+pub rest-of : (xs : List ℕ) (k : ℕ) → take (length xs - k) (drop k xs) ≡ drop k xs
+rest-of xs k = let e : length xs - k ≡ length (drop k xs) = omega (arith, length-drop k xs) in ap (λ (n : ℕ). take n (drop k xs)) e ∙ take-length (drop k xs)
+
+-- two tests that each follow from the other
+pub both-ways : (p q : Bool) → (p ≡ true → q ≡ true) → (q ≡ true → p ≡ true) → p ≡ q
+both-ways true q f g = sym (f refl)
+both-ways false true f g = g refl
+both-ways false false f g = refl

@@ -3,7 +3,7 @@ use Rattle.std.proofs.Common.{ℕ, zero, suc, ◌≡◌, ◌<◌, ◌≤◌, Boo
 use Rattle.std.specs.List.{list_all}
 use Rattle.std.specs.Str.{IsUtf8, IsAscii}
 use Rattle.std.proofs.lemmas.Str.{IsUtf8-from_ascii}
-use Rattle.std.proofs.lemmas.Bool.{cases_lt}
+use Rattle.std.proofs.lemmas.Bool.{and_parts, cases_lt}
 use Rattle.std.proofs.lemmas.Bool.Decides.{nat_tests}
 use Rattle.std.specs.Prelude.{if◌then◌else◌, ◌==◌, not, nat_le}
 use Rattle.std.specs.List.{onto_first}
@@ -16,15 +16,10 @@ not-name b h = grind (arith, nat_tests)
 name-ascii : (b : ℕ) → is_name_byte b ≡ true → b < 128
 name-ascii b h = elim (cases_lt b 128) [ inl low ↦ low | inr high ↦ let e : true ≡ false = sym h ∙ not-name b high in absurd (let no : ⊥ = cc in no) ]
 
-both : (a b : Bool) → (a && b) ≡ true → (a ≡ true) × (b ≡ true)
-both true true h = (refl, refl)
-both true false h = (refl, h)
-both false b h = let e : true ≡ false = sym h in absurd (let no : ⊥ = cc in no)
-
 pub ascii : (text : List ℕ) → list_all is_name_byte text ≡ true → IsAscii text
 ascii [] h i = omega arith
-ascii (b ∷ bs) h zero = name-ascii b (both (is_name_byte b) (list_all is_name_byte bs) h).0
-ascii (b ∷ bs) h (suc i) = ascii bs (both (is_name_byte b) (list_all is_name_byte bs) h).1 i
+ascii (b ∷ bs) h zero = name-ascii b (and_parts (is_name_byte b) (list_all is_name_byte bs) h).0
+ascii (b ∷ bs) h (suc i) = ascii bs (and_parts (is_name_byte b) (list_all is_name_byte bs) h).1 i
 
 -- whether a text goes on as a stem, where it begins a part or not
 abbrev pub goes_on : Bool → List ℕ → Bool
@@ -74,9 +69,9 @@ ascii-cons b bs h hs (suc i) = hs i
 
 ascii-step : (begins : Bool) (b : ℕ) (bs : List ℕ) → ((t : Bool) → goes_on t bs ≡ true → IsAscii bs) → (s : Bool) → (b == 47) ≡ s →
     (if s then (not begins && goes_on true bs) else (is_name_byte b && goes_on false bs)) ≡ true → IsAscii (b ∷ bs)
-ascii-step begins b bs later true e h = let eq : b ≡ 47 = grind (arith, nat_tests) in ascii-cons b bs (omega arith) (later true (both (not begins) (goes_on true bs) h).1)
+ascii-step begins b bs later true e h = let eq : b ≡ 47 = grind (arith, nat_tests) in ascii-cons b bs (omega arith) (later true (and_parts (not begins) (goes_on true bs) h).1)
 ascii-step begins b bs later false e h =
-    ascii-cons b bs (name-ascii b (both (is_name_byte b) (goes_on false bs) h).0) (later false (both (is_name_byte b) (goes_on false bs) h).1)
+    ascii-cons b bs (name-ascii b (and_parts (is_name_byte b) (goes_on false bs) h).0) (later false (and_parts (is_name_byte b) (goes_on false bs) h).1)
 
 goes_on-ascii : (text : List ℕ) (begins : Bool) → goes_on begins text ≡ true → IsAscii text
 goes_on-ascii [] begins h = λ i. omega arith
@@ -89,4 +84,4 @@ pub name-utf8 : (text : List ℕ) → IsTrue (list_all is_name_byte text) → Is
 name-utf8 text h = IsUtf8-from_ascii text (ascii text h)
 
 pub name-bytes : (text : List ℕ) → IsTrue (is_name text) → IsTrue (list_all is_name_byte text)
-name-bytes text h = (both (nat_le 1 (length text) && nat_le (length text) 24) (list_all is_name_byte text) h).1
+name-bytes text h = (and_parts (nat_le 1 (length text) && nat_le (length text) 24) (list_all is_name_byte text) h).1

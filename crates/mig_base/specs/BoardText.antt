@@ -156,6 +156,10 @@ abbrev pub is_input_port : Port → Bool
 is_input_port port.Input = true
 is_input_port _ = false
 
+abbrev pub is_both : Port → Bool
+is_both port.Both = true
+is_both _ = false
+
 -- an Input port of this name among these nets, or GND or VCC
 abbrev pub cant_pull : List NetLine → List ℕ → Bool
 cant_pull nets net = bytes_eq net (codes "GND") || bytes_eq net (codes "VCC") || list_any (λ l. bytes_eq net l.name && is_input_port l.port) nets

@@ -3,6 +3,7 @@
 
 mod cells;
 mod circuit;
+mod comparing;
 mod files;
 mod items;
 mod jedec;
@@ -18,6 +19,7 @@ pub use cells::{Cell, ChipCells, ChipError, Enable, Form, Fuses, Lit, Product, R
 pub use circuit::{
     Circuit, Driver, Gate, Gives, Inputs, Levels, Literal, NetKind, Read, Register, State, Wire,
 };
+pub use comparing::{Alone, Gap, Trace};
 pub use files::{FileName, NameError, Stem, file_name};
 pub use items::{Items, NoMemory};
 pub use jedec::{Field, JedError};

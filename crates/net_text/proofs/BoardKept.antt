@@ -4,7 +4,7 @@ use Rattle.std.specs.Prelude.{not, nat_le, is_none, codes}
 use Rattle.std.specs.List.{AllByRecursion, list_any, cons_option}
 use Rattle.std.specs.Str.{bytes_eq}
 use Rattle.std.specs.Option.{option_map}
-use Rattle.std.proofs.lemmas.Bool.{or_parts, or_from, leb-false}
+use Rattle.std.proofs.lemmas.Bool.{or_parts, or_from, leb-false, or_left}
 use Rattle.std.proofs.lemmas.List.{map-append, append-nil}
 use Rattle.std.proofs.lemmas.List.Folds.{list_any-append}
 use Rattle.std.proofs.lemmas.List.Elements.{filter_map-append}
@@ -19,7 +19,7 @@ use Rattle.mig_base.specs.First.{or_else, first_refusal}
 use Rattle.mig_base.specs.BoardText.{Says, Head, NetOf, ChipOf, PinOf, PullOf, End, Wrong, SaidLine, all_said, is_first, is_head, ends, refuse, said_refusal, line_refusal, nets_in, net_names, chips_in, place_named, pulls, is_version, cant_pull, is_input_port, pull_on, pull_in, net_said, chip_said}
 use Rattle.mig_base.specs.WrittenBoard.{are_distinct, is_pulled}
 use Rattle.mig_base.proofs.Distinct.{bytes-equal, same-sym, same-is, distinct-append}
-use Rattle.net_text.proofs.BoardSays.{snoc-append}
+use Rattle.mig_base.proofs.ListLaws.{snoc-append}
 
 -- what lines keep that nothing refused
 pub record Keeps (ss : List Says) : Type 0 where
@@ -64,7 +64,7 @@ pull-snoc name (x ∷ b) s = at (pulls name x) (pull-snoc name b s)
     at true e = refl
     at false e = e
 
-pull-free : (name : List ℕ) (b : List Says) → list_any (pulls name) b ≡ false → pull_in b name ≡ pull.Free
+pub pull-free : (name : List ℕ) (b : List Says) → list_any (pulls name) b ≡ false → pull_in b name ≡ pull.Free
 pull-free name [] h = refl
 pull-free name (x ∷ b) h =
     let parts : (pulls name x ≡ false) × (list_any (pulls name) b ≡ false) = or_parts _ _ h in
@@ -122,10 +122,6 @@ all-snoc : {T : Type 0} (P : T → Type 0) (xs : List T) (x : T) → AllByRecurs
 all-snoc P [] x h k = (k, tt)
 all-snoc P (y ∷ xs) x h k = (h.0, all-snoc P xs x h.1 k)
 
-or-more : (a b : Bool) → a ≡ true → (a || b) ≡ true
-or-more true b h = refl
-or-more false b h = cc
-
 or-last : (a b : Bool) → b ≡ true → (a || (b || false)) ≡ true
 or-last true b h = refl
 or-last false true h = refl
@@ -149,7 +145,7 @@ keeps-net n b name dir h k =
       distinct_chips = ap (λ (cs : List ChipLine). are_distinct bytes_eq (map (λ c. c.name) cs)) chips ∙ k.distinct_chips;
       known = λ m j.
           ap (λ (ls : List NetLine). list_any (bytes_eq m) (net_names ls)) nets ∙ ap (list_any (bytes_eq m)) (names-snoc (nets_in b) l) ∙ list_any-append (bytes_eq m) (net_names (nets_in b)) (name ∷ [])
-          ∙ or-more _ _ (k.known m (sym (idle-pulls b s m refl) ∙ j));
+          ∙ or_left _ _ (k.known m (sym (idle-pulls b s m refl) ∙ j));
       pulled = subst (λ (ls : List NetLine). AllByRecursion (λ x. (is_pulled (pull_in (b ++ s ∷ []) x.name) && is_input_port x.port) ≡ false) ls) (sym nets)
           (all-snoc (λ x. (is_pulled (pull_in (b ++ s ∷ []) x.name) && is_input_port x.port) ≡ false) (nets_in b) l (all-same b s (λ m. refl) (nets_in b) k.pulled)
           (ap (λ (p : Pull). is_pulled p && is_input_port dir) (pull-same name b s refl ∙ pull-free name b unpulled)));

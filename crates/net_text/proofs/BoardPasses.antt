@@ -23,7 +23,8 @@ use Rattle.mig_base.specs.BoardText.{Says, Head, PullOf, End, SaidLine, all_said
 use Rattle.mig_base.specs.WrittenBoard.{are_distinct, chip_name, net_name, is_pulled, same_place, place_of, board_places, IsWritable}
 use Rattle.mig_base.proofs.KindFacts.{is_proper}
 use Rattle.mig_base.proofs.Distinct.{bytes-equal, places-equal, distinct-before, distinct-behind, part-distinct, places-distinct}
-use Rattle.net_text.proofs.BoardSays.{net_says, pull_says_at, pull_says, chip_says, pin_says, version_of, board_says, said_from, IsWired, pins-wired, chip-name-is, snoc-append, all-append}
+use Rattle.mig_base.proofs.ListLaws.{snoc-append, all-append}
+use Rattle.net_text.proofs.BoardSays.{net_says, pull_says_at, pull_says, chip_says, pin_says, version_of, board_says, said_from, IsWired, pins-wired, chip-name-is}
 use Rattle.net_text.proofs.BoardParts.{unpulled, none-passes, none-pulls, names-unpulled, first_two, first_three, first_four, first_five, two-nets, three-nets, five-nets, four-chips, five-chips, three-none, four-none, five-any, pins-of-pins, ends-of-pins, place-found, chip-found}
 
 abbrev pub is_start : List Says → Bool

@@ -5,7 +5,7 @@ use Rattle.std.specs.List.{AllByRecursion, list_any, filter_map, slice_get, cons
 use Rattle.std.specs.Str.{bytes_eq}
 use Rattle.std.specs.Option.{option_map}
 use Rattle.std.proofs.lemmas.Bool.{and_parts, or_parts, not-true}
-use Rattle.std.proofs.lemmas.List.{append-nil}
+use Rattle.std.proofs.lemmas.List.{append-nil, length_push}
 use Rattle.std.proofs.lemmas.List.Folds.{list_any-append}
 use Rattle.std.proofs.lemmas.List.Elements.{filter_map-append}
 use Rattle.mig_base.specs.declared.nets.Net.{Net}
@@ -21,9 +21,11 @@ use Rattle.mig_base.specs.First.{or_else, unless}
 use Rattle.mig_base.specs.BoardText.{Says, End, SaidLine, all_said, ends, refuse, text_refusal, nets_in, net_names, names_of_nets, chips_in, has_pin, pulls, net_on, net_at, pins_in, pull_on, pull_in, with_pull, net_in, net_of_text, net_said, chip_said}
 use Rattle.mig_base.specs.WrittenBoard.{are_distinct, is_part, Place, same_place, place_of, board_places, chip_name, written_net, IsWritable}
 use Rattle.mig_base.proofs.Distinct.{bytes-equal, places-equal, same-sym, same-refl, same-is, part-any, places-distinct}
-use Rattle.net_text.proofs.BoardSays.{net_says, pull_says_at, pull_says, chip_says, pin_says, board_says, said_from, said-written, IsWired, pins-wired, chip-name-is, snoc-append}
+use Rattle.mig_base.proofs.ListLaws.{snoc-append}
+use Rattle.net_text.proofs.BoardSays.{net_says, pull_says_at, pull_says, chip_says, pin_says, board_says, said_from, said-written, IsWired, pins-wired, chip-name-is}
 use Rattle.net_text.proofs.BoardParts.{unpulled, none-passes, names-unpulled, first_two, first_three, first_four, first_five, five-nets, five-chips, four-none, pins-of-pins, place-found}
 use Rattle.net_text.proofs.BoardPasses.{lines-pass, board-passes, apart-before, apart-behind, not-pulled-yet, same-chip, chip-within}
+use Rattle.net_text.proofs.BoardKept.{pull-free}
 
 said-nets : (net : Net) → nets_in (board_says net) ≡ map unpulled net.nets
 said-nets net = filter_map-append net_said (first_five net net.pins) (End ∷ []) ∙ append-nil _ ∙ five-nets net net.pins
@@ -42,18 +44,15 @@ pull-behind name (x ∷ xs) ys h =
     let parts : (pulls name x ≡ false) × (list_any (pulls name) xs ≡ false) = or_parts _ _ h in
     ap (λ (t : Bool). cond t (pull_on x) (pull_in (xs ++ ys) name)) parts.0 ∙ pull-behind name xs ys parts.1
 
-pull-none : (name : List ℕ) (xs : List Says) → list_any (pulls name) xs ≡ false → pull_in xs name ≡ pull.Free
-pull-none name xs h = ap (λ (ss : List Says). pull_in ss name) (sym (append-nil xs)) ∙ pull-behind name xs [] h
-
 pull-before : (name : List ℕ) (xs ys : List Says) → list_any (pulls name) ys ≡ false → pull_in (xs ++ ys) name ≡ pull_in xs name
-pull-before name [] ys h = pull-none name ys h
+pull-before name [] ys h = pull-free name ys h
 pull-before name (x ∷ xs) ys h = ap (λ (p : Pull). cond (pulls name x) (pull_on x) p) (pull-before name xs ys h)
 
 pull-here : (l : NetLine) (rest : List NetLine) → list_any (bytes_eq l.name) (map (λ m. m.name) rest) ≡ false → pull_in (filter_map pull_says (l ∷ rest)) l.name ≡ l.pull
 pull-here l rest h = at l.pull
   where
     at : (d : Pull) → pull_in (cons_option (pull_says_at l.name d) (filter_map pull_says rest)) l.name ≡ d
-    at pull.Free = pull-none l.name (filter_map pull_says rest) (not-pulled-yet l.name rest h)
+    at pull.Free = pull-free l.name (filter_map pull_says rest) (not-pulled-yet l.name rest h)
     at pull.Up = ap (λ (t : Bool). cond t pull.Up (pull_in (filter_map pull_says rest) l.name)) (same-refl bytes-equal l.name)
     at pull.Down = ap (λ (t : Bool). cond t pull.Down (pull_in (filter_map pull_says rest) l.name)) (same-refl bytes-equal l.name)
 
@@ -97,10 +96,6 @@ net-behind names chip pin (x ∷ xs) ys h =
     let parts : (has_pin chip pin x ≡ false) × (list_any (has_pin chip pin) xs ≡ false) = or_parts _ _ h in
     ap (λ (t : Bool). cond t (net_on names x) (net_at (xs ++ ys) names chip pin)) parts.0 ∙ net-behind names chip pin xs ys parts.1
 
-or-false : (a : Bool) → (a || false) ≡ a
-or-false true = refl
-or-false false = refl
-
 same-pin : (net : Net) → IsWritable net → (l : PinLine) → IsWired net l → (j p : ℕ) → j < length net.chips → has_pin (chip_name net j) p (pin_says net l) ≡ same_place (j, p) (place_of l)
 same-pin net w l h j p lt = ap (λ (t : Bool). t && eqb p l.pin) (same-chip net w j l.chip lt (chip-within net l h))
 
@@ -126,16 +121,13 @@ chip-back net w j lt (p ∷ ps) =
     ap (λ (o : Option ℕ). cons_option (option_map (line_at (j, p)) o) (filter_map (λ q. option_map (line_at (j, q)) (net_at (board_says net) (names_of_nets (board_says net)) (chip_name net j) q)) ps)) (net-back net w j p lt)
     ∙ ap (λ (ls : List PinLine). cons_option (line_of_place net.pins (j, p)) ls) (chip-back net w j lt ps)
 
-length-snoc : {T : Type 0} (xs : List T) (x : T) → length (xs ++ x ∷ []) ≡ length xs + 1
-length-snoc xs x = length-append xs (x ∷ [])
-
 pins-by-place : (net : Net) → IsWritable net → (done cs : List ChipLine) → net.chips ≡ done ++ cs → pins_in (board_says net) (length done) cs ≡ filter_map (line_of_place net.pins) (board_places (length done) cs)
 pins-by-place net w done [] e = refl
 pins-by-place net w done (c ∷ cs) e =
     ap (λ (n : List ℕ). filter_map (λ p. option_map (line_at (length done, p)) (net_at (board_says net) (names_of_nets (board_says net)) n p)) (ordinary_pins c.kind) ++ pins_in (board_says net) (length done + 1) cs) (sym name)
     ∙ ap (λ (ls : List PinLine). ls ++ pins_in (board_says net) (length done + 1) cs) (chip-back net w (length done) within (ordinary_pins c.kind))
     ∙ ap (λ (ls : List PinLine). filter_map (line_of_place net.pins) (map (λ p. (length done, p)) (ordinary_pins c.kind)) ++ ls)
-    (subst (λ (j : ℕ). pins_in (board_says net) j cs ≡ filter_map (line_of_place net.pins) (board_places j cs)) (length-snoc done c) (pins-by-place net w (done ++ c ∷ []) cs (e ∙ sym (snoc-append done c cs))))
+    (subst (λ (j : ℕ). pins_in (board_says net) j cs ≡ filter_map (line_of_place net.pins) (board_places j cs)) (length_push done c) (pins-by-place net w (done ++ c ∷ []) cs (e ∙ sym (snoc-append done c cs))))
     ∙ sym (filter_map-append (line_of_place net.pins) (map (λ p. (length done, p)) (ordinary_pins c.kind)) (board_places (length done + 1) cs))
   where
     there : (ds : List ChipLine) → slice_get (ds ++ c ∷ cs) (length ds) ≡ Some c

@@ -1,10 +1,10 @@
 -- What the lines of a written board say.
-use Rattle.std.proofs.Common.{ℕ, zero, suc, ◌≡◌, ◌+◌, ◌<◌, ◌≤◌, Bool, true, false, cond, ◌&&◌, List, [], ◌∷◌, ◌++◌, map, length, refl, ap, ◌∙◌, subst, arith, Option, Some, None, get_or, ⊎_elim}
+use Rattle.std.proofs.Common.{ℕ, zero, suc, ◌≡◌, ◌+◌, ◌<◌, ◌≤◌, Bool, true, false, cond, ◌&&◌, List, [], ◌∷◌, ◌++◌, map, length, refl, ap, ◌∙◌, subst, arith, Option, Some, None, get_or}
 use Rattle.std.specs.Prelude.{nat_le, nat_lt, codes}
 use Rattle.std.specs.List.{AllByRecursion, list_any, list_all, filter_map, slice_get, cons_option}
 use Rattle.std.specs.Fmt.{decimal}
-use Rattle.std.proofs.lemmas.Bool.{and_parts, and_from, or_cases, eqb-true, ltb-true, leb-true, le-leb}
-use Rattle.std.proofs.lemmas.List.{map-append}
+use Rattle.std.proofs.lemmas.Bool.{and_parts, and_from, ltb-true, leb-true, le-leb}
+use Rattle.std.proofs.lemmas.List.{map-append, length_push}
 use Rattle.std.proofs.lemmas.List.Folds.{list_all-append}
 use Rattle.std.proofs.lemmas.Fmt.{length-decimal-le}
 use Rattle.mig_base.specs.declared.kinds.Kind.{Kind}
@@ -24,7 +24,9 @@ use Rattle.mig_base.specs.WrittenBoard.{net_line, port_words, pull_line, pull_li
 use Rattle.mig_base.proofs.KindFacts.{member-passes, every-kind, is_proper, ordinary-proper, pins-few, kind-read}
 use Rattle.text_lines.proofs.Numerals.{number-decimal, decimal-spells, IsDigit}
 use Rattle.text_lines.proofs.WrittenLines.{is_plain_word, is_plain_line, numbered, lines-written}
+use Rattle.text_lines.proofs.PlainWords.{name-plain, kind-plain}
 use Rattle.mig_base.proofs.Distinct.{part-all, places-equal}
+use Rattle.mig_base.proofs.ListLaws.{all-append, all-each, snoc-append}
 
 abbrev pub net_says : NetLine → Says
 net_says l = NetOf l.name l.port
@@ -61,25 +63,13 @@ get-behind : (done : List ChipLine) (c : ChipLine) (cs : List ChipLine) → slic
 get-behind [] c cs = refl
 get-behind (d ∷ done) c cs = get-behind done c cs
 
-pub all-append : {T : Type 0} (P : T → Type 0) (xs ys : List T) → AllByRecursion P xs → AllByRecursion P ys → AllByRecursion P (xs ++ ys)
-all-append P [] ys hx hy = hy
-all-append P (x ∷ xs) ys hx hy = (hx.0, all-append P xs ys hx.1 hy)
-
-length-snoc : {T : Type 0} (xs : List T) (x : T) → length (xs ++ x ∷ []) ≡ length xs + 1
-length-snoc [] x = refl
-length-snoc (y ∷ xs) x = ap suc (length-snoc xs x) ∙ omega arith
-
-pub snoc-append : {T : Type 0} (xs : List T) (y : T) (ys : List T) → (xs ++ y ∷ []) ++ ys ≡ xs ++ y ∷ ys
-snoc-append [] y ys = refl
-snoc-append (x ∷ xs) y ys = ap (λ (zs : List _). x ∷ zs) (snoc-append xs y ys)
-
 places-of : (done cs : List ChipLine) → AllByRecursion (IsOf (done ++ cs)) (board_places (length done) cs)
 places-of done [] = tt
 places-of done (c ∷ cs) =
     all-append (IsOf (done ++ c ∷ cs)) (map (λ p. (length done, p)) (ordinary_pins c.kind)) (board_places (length done + 1) cs)
     (here (ordinary_pins c.kind) (ordinary-proper c.kind))
     (subst (λ (cs' : List ChipLine). AllByRecursion (IsOf cs') (board_places (length done + 1) cs)) (snoc-append done c cs)
-    (subst (λ (j : ℕ). AllByRecursion (IsOf ((done ++ c ∷ []) ++ cs)) (board_places j cs)) (length-snoc done c) (places-of (done ++ c ∷ []) cs)))
+    (subst (λ (j : ℕ). AllByRecursion (IsOf ((done ++ c ∷ []) ++ cs)) (board_places j cs)) (length_push done c) (places-of (done ++ c ∷ []) cs)))
   where
     here : (ps : List ℕ) → list_all (is_proper c.kind) ps ≡ true → AllByRecursion (IsOf (done ++ c ∷ cs)) (map (λ p. (length done, p)) ps)
     here [] h = tt
@@ -129,27 +119,6 @@ chip-name-is net j c e = named net.chips j e
 pub chip-name-named : (net : Net) → IsWritable net → (j : ℕ) (c : ChipLine) → slice_get net.chips j ≡ Some c → is_name (chip_name net j) ≡ true
 chip-name-named net w j c e = ap is_name (chip-name-is net j c e) ∙ member-passes (λ d. is_name d.name) net.chips j c w.named_chips e
 
--- the words of names, numbers and kinds are plain
-name-plain : (text : List ℕ) → is_name text ≡ true → is_plain_word text ≡ true
-name-plain [] h = cc
-name-plain (b ∷ bs) h = bytes (b ∷ bs) (and_parts (nat_le 1 (length (b ∷ bs)) && nat_le (length (b ∷ bs)) 24) (list_all is_name_byte (b ∷ bs)) h).1
-  where
-    big : (x : ℕ) → is_name_byte x ≡ true → nat_le 33 x ≡ true
-    big x h = le-leb 33 x (⊎_elim
-        (λ u. ⊎_elim
-        (λ v. ⊎_elim
-        (λ a. ⊎_elim (λ p. above 97 122 p (omega arith)) (λ p. above 65 90 p (omega arith)) (or_cases _ _ a))
-        (λ p. above 48 57 p (omega arith)) (or_cases _ _ v))
-        (λ e. let is : x ≡ 95 = eqb-true x 95 e in omega arith) (or_cases _ _ u))
-        (λ e. let is : x ≡ 45 = eqb-true x 45 e in omega arith) (or_cases _ _ h))
-      where
-        above : (a b : ℕ) → (nat_le a x && nat_le x b) ≡ true → 33 ≤ a → 33 ≤ x
-        above a b p le = let here : a ≤ x = leb-true a x (and_parts _ _ p).0 in omega arith
-
-    bytes : (xs : List ℕ) → list_all is_name_byte xs ≡ true → list_all (nat_le 33) xs ≡ true
-    bytes [] h = refl
-    bytes (x ∷ xs) h = let parts : (is_name_byte x ≡ true) × (list_all is_name_byte xs ≡ true) = and_parts _ _ h in and_from _ _ (big x parts.0) (bytes xs parts.1)
-
 decimal-plain : (n : ℕ) → n < 1000000000 → is_plain_word (decimal n) ≡ true
 decimal-plain n h = plain (decimal n) (decimal-spells n (omega arith)).digits (decimal-spells n (omega arith)).some
   where
@@ -160,9 +129,6 @@ decimal-plain n h = plain (decimal n) (decimal-spells n (omega arith)).digits (d
     plain : (ds : List ℕ) → AllByRecursion IsDigit ds → 1 ≤ length ds → is_plain_word ds ≡ true
     plain [] h some = absurd (omega arith)
     plain (d ∷ ds) h some = bytes (d ∷ ds) h
-
-kind-plain : (k : Kind) → is_plain_word (kind_name k) ≡ true
-kind-plain k = every-kind (λ j. is_plain_word (kind_name j)) refl k
 
 -- a short word, as names, kinds and numbers are
 abbrev pub is_short_word : List ℕ → Bool
@@ -249,10 +215,6 @@ text-map f g (t ∷ ts) h = text-cons (f t) (g t) (map f ts) (map g ts) h.0 (tex
 pub all-from : {T : Type 0} (p : T → Bool) (P : T → Type 0) (ts : List T) → ((t : T) → p t ≡ true → P t) → list_all p ts ≡ true → AllByRecursion P ts
 all-from p P [] each h = tt
 all-from p P (t ∷ ts) each h = let parts : (p t ≡ true) × (list_all p ts ≡ true) = and_parts _ _ h in (each t parts.0, all-from p P ts each parts.1)
-
-pub all-each : {T : Type 0} (P Q : T → Type 0) (ts : List T) → ((t : T) → P t → Q t) → AllByRecursion P ts → AllByRecursion Q ts
-all-each P Q [] each h = tt
-all-each P Q (t ∷ ts) each h = (each t h.0, all-each P Q ts each h.1)
 
 pulls-text : (ls : List NetLine) → list_all (λ l. is_name l.name) ls ≡ true → IsTextOf (filter_map pull_line ls) (filter_map pull_says ls)
 pulls-text [] h = record { plain = refl; short = refl; says = refl }

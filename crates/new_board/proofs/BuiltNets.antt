@@ -1,10 +1,10 @@
 -- The nets that a rebuilt board keeps: no more than the old ones, and with different names.
-use Rattle.std.proofs.Common.{ℕ, zero, suc, ◌≡◌, ◌+◌, ◌-◌, ◌≤◌, Bool, true, false, not, cond, List, [], ◌∷◌, ◌++◌, map, length, Option, Some, refl, sym, ap, ◌∙◌, inl, inr, arith}
+use Rattle.std.proofs.Common.{ℕ, zero, suc, ◌≡◌, ◌+◌, ◌-◌, ◌≤◌, Bool, true, false, not, List, [], ◌∷◌, map, length, Option, Some, refl, sym, ap, ◌∙◌, inl, inr, arith}
 use Rattle.std.specs.Prelude.{codes}
 use Rattle.std.specs.List.{list_any, list_all, filter_map, cons_option, slice_get}
 use Rattle.std.specs.Option.{option_map}
 use Rattle.std.specs.Str.{bytes_eq}
-use Rattle.std.proofs.lemmas.Bool.{and_parts, and_from, or_from, or_parts, not-true}
+use Rattle.std.proofs.lemmas.Bool.{and_parts, and_from, or_from, or_parts, not-true, false_from_ne_true}
 use Rattle.std.proofs.lemmas.List.{length-append}
 use Rattle.std.proofs.lemmas.Option.{same_Some, slice_get-map}
 use Rattle.mig_base.specs.declared.nets.NetLine.{NetLine}
@@ -13,23 +13,15 @@ use Rattle.mig_base.specs.BoardText.{net_names}
 use Rattle.mig_base.specs.Boards.{places_from, is_port}
 use Rattle.mig_base.specs.WrittenBoard.{are_distinct}
 use Rattle.mig_base.proofs.Distinct.{bytes-equal, same-sym, distinct-behind}
+use Rattle.mig_base.proofs.PlaceLaws.{places-count}
+use Rattle.mig_base.proofs.Amongs.{among-get, map-among, among-map, among-any, any-among, among-all, pass-all}
 use Rattle.new_board.specs.NewChip.{OldBoard, NewChip}
 use Rattle.new_board.specs.NewFiles.{stands_on, fitted}
-use Rattle.new_board.proofs.Items.{among-get, among-map, among-unmap, among-any, any-among, all-of, all-pass, pass-all, among-unfilter_map}
+use Rattle.new_board.proofs.Items.{all-pass, among-unfilter_map}
 use Rattle.new_board.proofs.NewWiring.{rebuilt_net, kept_of}
 use Rattle.new_board.proofs.KeptNets.{AreDifferent}
 use Rattle.new_board.proofs.KeptNumbers.{pick, port_places, inner_places, kept-line, kept-different, nets-length}
 use Rattle.new_board.proofs.BuiltRows.{filter-short}
-
--- the nets that pass and the others are all
-places-count : {T : Type 0} (test : T → Bool) (start : ℕ) (xs : List T) → length (places_from test start xs) + length (places_from (λ x. not (test x)) start xs) ≡ length xs
-places-count test start [] = refl
-places-count test start (x ∷ xs) = at (test x) (places-count test (start + 1) xs)
-  where
-    at : (q : Bool) → length (places_from test (start + 1) xs) + length (places_from (λ x. not (test x)) (start + 1) xs) ≡ length xs →
-        length (cond q (start ∷ []) [] ++ places_from test (start + 1) xs) + length (cond (not q) (start ∷ []) [] ++ places_from (λ x. not (test x)) (start + 1) xs) ≡ suc (length xs)
-    at true rest = omega arith
-    at false rest = omega arith
 
 pub nets-few : (b : OldBoard) (news : List NewChip) → length (rebuilt_net b news).nets ≤ length b.net.nets
 nets-few b news =
@@ -64,10 +56,6 @@ distinct-place {T} same turn (z ∷ zs) (suc i) zero x y d e f s =
     cc
 distinct-place same turn (z ∷ zs) (suc i) (suc j) x y d e f s = ap suc (distinct-place same turn zs i j x y (and_parts (not (list_any (same z) zs)) (are_distinct same zs) d).1 e f s)
 
-false-from : (q : Bool) → (q ≡ true → ⊥) → q ≡ false
-false-from true h = absurd (h refl)
-false-from false h = refl
-
 -- different places have different names
 names-apart : (b : OldBoard) (ns : List ℕ) → are_distinct bytes_eq (map (λ (l : NetLine). l.name) b.net.nets) ≡ true → AreDifferent ns → ((n : ℕ) → Among n ns → (l : NetLine) × (pick b.net n ≡ Some l) × (2 ≤ n)) →
     are_distinct bytes_eq (map (λ (l : NetLine). l.name) (filter_map (pick b.net) ns)) ≡ true
@@ -75,9 +63,9 @@ names-apart b [] d apart found = refl
 names-apart b (n ∷ ns) d apart found =
     let l = found n (inl refl) in
     let rest = map (λ (m : NetLine). m.name) (filter_map (pick b.net) ns) in
-    let other : list_any (bytes_eq l.0.name) rest ≡ false = false-from (list_any (bytes_eq l.0.name) rest) (λ e.
+    let other : list_any (bytes_eq l.0.name) rest ≡ false = false_from_ne_true (list_any (bytes_eq l.0.name) rest) (λ e.
     let name = any-among (bytes_eq l.0.name) rest e in
-    let line = among-unmap (λ (m : NetLine). m.name) name.0 (filter_map (pick b.net) ns) name.1 in
+    let line = among-map (λ (m : NetLine). m.name) name.0 (filter_map (pick b.net) ns) name.1 in
     let k = among-unfilter_map (pick b.net) line.0 ns line.1 in
     let low : 2 ≤ n = l.2 in
     let high : 2 ≤ k.0 = (found k.0 (inr k.1)).2 in
@@ -86,18 +74,18 @@ names-apart b (n ∷ ns) d apart found =
     (slice_get-map (λ (m : NetLine). m.name) b.net.nets (k.0 - 2) ∙ ap (option_map (λ (m : NetLine). m.name)) k.2)
     (ap (bytes_eq l.0.name) (sym line.2) ∙ name.2) in
     let equal : k.0 ≡ n = omega arith in
-    all-of (λ m. m ≡ n → ⊥) k.0 ns apart.0 k.1 equal) in
+    among-all (λ m. m ≡ n → ⊥) k.0 ns apart.0 k.1 equal) in
     ap (λ (o : Option NetLine). are_distinct bytes_eq (map (λ (m : NetLine). m.name) (cons_option o (filter_map (pick b.net) ns)))) l.1
     ∙ and_from (not (list_any (bytes_eq l.0.name) rest)) (are_distinct bytes_eq rest) (ap (λ (q : Bool). not q) other) (names-apart b ns d apart.1 (λ m a. found m (inr a)))
 
 -- a name that no old net has, no kept net has
 none-kept : (b : OldBoard) (news : List NewChip) (test : List ℕ → Bool) → list_any test (map (λ (l : NetLine). l.name) b.net.nets) ≡ false →
     list_any test (map (λ (l : NetLine). l.name) (rebuilt_net b news).nets) ≡ false
-none-kept b news test none = false-from _ (λ e.
+none-kept b news test none = false_from_ne_true _ (λ e.
     let name = any-among test (map (λ (l : NetLine). l.name) (rebuilt_net b news).nets) e in
-    let line = among-unmap (λ (l : NetLine). l.name) name.0 (rebuilt_net b news).nets name.1 in
+    let line = among-map (λ (l : NetLine). l.name) name.0 (rebuilt_net b news).nets name.1 in
     let there : list_any test (map (λ (l : NetLine). l.name) b.net.nets) ≡ true =
-    among-any test line.0.name (map (λ (l : NetLine). l.name) b.net.nets) (among-map (λ (l : NetLine). l.name) line.0 b.net.nets (net-old b news line.0 line.1)) (ap test (sym line.2) ∙ name.2) in
+    among-any test line.0.name (map (λ (l : NetLine). l.name) b.net.nets) (map-among (λ (l : NetLine). l.name) line.0 b.net.nets (net-old b news line.0 line.1)) (ap test (sym line.2) ∙ name.2) in
     let wrong : true ≡ false = sym there ∙ none in
     cc)
 

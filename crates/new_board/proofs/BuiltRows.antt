@@ -11,12 +11,12 @@ use Rattle.mig_base.specs.Structure.{variable_literal, variable_product}
 use Rattle.mig_base.specs.WellFormed.{same_lit, rises_in, fits_row, has_enable_row}
 use Rattle.mig_base.specs.WrittenBoard.{are_distinct, is_part}
 use Rattle.mig_base.proofs.Distinct.{IsEqual, same-refl, part-more, part-distinct}
+use Rattle.mig_base.proofs.Amongs.{any-among, among-any, product-among}
 use Rattle.devices.proofs.RowLaws.{same_lit-eq}
 use Rattle.devices.proofs.ReadRows.{lit-itself}
 use Rattle.new_board.specs.NewChip.{OldBoard, NewChip}
 use Rattle.new_board.specs.NewFiles.{new_columns, new_lit, new_product, new_enable}
-use Rattle.new_board.proofs.Items.{among-filter, among-unfilter, any-among, among-any, among-filter_map, among-unfilter_map}
-use Rattle.new_board.proofs.Variables.{product-among}
+use Rattle.new_board.proofs.Items.{among-filter, among-unfilter, among-filter_map, among-unfilter_map}
 use Rattle.new_board.proofs.Columns.{RegistersFit, IsReadable, lit-in_product}
 
 -- the items that pass are a part of them, in order

@@ -19,14 +19,15 @@ use Rattle.mig_base.specs.Values.{literal_value, product_value, product_reads, s
 use Rattle.mig_base.specs.Among.{Among}
 use Rattle.mig_base.specs.Bools.{same_bool}
 use Rattle.mig_base.specs.WellFormed.{same_lit}
+use Rattle.mig_base.proofs.Amongs.{map-among, among-map, any-among, among-any, among-all}
+use Rattle.mig_base.proofs.ReadLaws.{read-same}
 use Rattle.devices.proofs.RowLaws.{same_lit-eq}
 use Rattle.devices.proofs.ReadRows.{lit-itself}
 use Rattle.new_board.specs.NewChip.{OldBoard, NewChip, register_on, is_literal_of, first_of}
 use Rattle.new_board.specs.InputPins.{pin_reads, reading_pin}
 use Rattle.new_board.specs.NewFiles.{registered_pins, new_columns, column_lit, lit_on, new_lit, new_product}
-use Rattle.new_board.proofs.Items.{among-filter, among-unfilter, among-map, among-unmap, any-among, among-any, among-filter_map, among-unfilter_map, all-of}
+use Rattle.new_board.proofs.Items.{among-filter, among-unfilter, among-filter_map, among-unfilter_map}
 use Rattle.new_board.proofs.Products.{product-same}
-use Rattle.new_board.proofs.Variables.{read-same}
 
 pub first-among : {T : Type 0} (xs : List T) (x : T) → first_of xs ≡ Some x → Among x xs
 first-among [] x e = cc
@@ -162,15 +163,15 @@ new_product-value b chip place Good l m fit registers lits readable good = produ
     (record {
       each = λ x a.
           let found = lit-in_product b chip lits registers readable x a in
-          (placed_lit place found.0, among-map (placed_lit place) found.0 (new_product b chip lits) found.1, reading-value b chip place Good l m fit x found.0 found.2 (good-at found.0 found.1));
+          (placed_lit place found.0, map-among (placed_lit place) found.0 (new_product b chip lits) found.1, reading-value b chip place Good l m fit x found.0 found.2 (good-at found.0 found.1));
     })
     (record {
       each = λ z a.
-          let y = among-unmap (placed_lit place) z (new_product b chip lits) a in
+          let y = among-map (placed_lit place) z (new_product b chip lits) a in
           let x = product-lit b chip lits readable y.0 y.1 in
           (x.0, x.1, ap (literal_value m) y.2 ∙ sym (reading-value b chip place Good l m fit x.0 y.0 x.2 (good-at y.0 y.1)));
     })
   where
     good-at : (y : Lit) → Among y (new_product b chip lits) → Good (place y.source)
-    good-at y a = all-of Good (place y.source) (product_reads (map (placed_lit place) (new_product b chip lits))) good
-        (among-map (λ (z : Literal). z.source) (placed_lit place y) (map (placed_lit place) (new_product b chip lits)) (among-map (placed_lit place) y (new_product b chip lits) a))
+    good-at y a = among-all Good (place y.source) (product_reads (map (placed_lit place) (new_product b chip lits))) good
+        (map-among (λ (z : Literal). z.source) (placed_lit place y) (map (placed_lit place) (new_product b chip lits)) (map-among (placed_lit place) y (new_product b chip lits) a))

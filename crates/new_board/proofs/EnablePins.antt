@@ -8,9 +8,9 @@ use Rattle.mig_base.specs.declared.circuit.Circuit.{Circuit}
 use Rattle.mig_base.specs.Bools.{same_bool}
 use Rattle.mig_base.specs.Boards.{low_pin}
 use Rattle.mig_base.specs.Structure.{alias_of, or_alias, variable_literal, variable_product, variable_gate}
+use Rattle.mig_base.proofs.ReadLaws.{same-read}
 use Rattle.structure.specs.Sorted.{has_node, with_variable, with_literal}
 use Rattle.structure.proofs.Sorting.{product-step, product-none}
-use Rattle.new_board.proofs.Variables.{same-read}
 use Rattle.new_board.specs.NewChip.{OldBoard, can_stand, when, alias_net, net_literal, is_complement_of, net_of_complement, enable_net}
 
 -- a product of one literal over variables

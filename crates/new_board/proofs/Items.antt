@@ -1,7 +1,8 @@
 -- Items of lists: what is among a list that is filtered, mapped, joined or searched.
-use Rattle.std.proofs.Common.{ℕ, zero, suc, ◌≡◌, Bool, true, false, cond, ◌&&◌, ◌||◌, List, [], ◌∷◌, ◌++◌, map, Option, Some, None, refl, sym, ap, ◌∙◌, subst, inl, inr, ◌⊎◌}
-use Rattle.std.specs.List.{filter, list_any, list_all, AllByRecursion, slice_get, flat_map, filter_map, cons_option}
+use Rattle.std.proofs.Common.{ℕ, zero, suc, ◌≡◌, Bool, true, false, cond, ◌&&◌, List, [], ◌∷◌, map, Option, Some, None, refl, sym, ap, ◌∙◌, subst, inl, inr, ◌⊎◌}
+use Rattle.std.specs.List.{filter, list_all, AllByRecursion, slice_get, flat_map, filter_map, cons_option}
 use Rattle.mig_base.specs.Among.{Among}
+use Rattle.mig_base.proofs.Amongs.{among-split}
 
 pub among-or_less : {T : Type 0} (q : Bool) (x y : T) (ys : List T) → Among x ys → Among x (cond q (y ∷ ys) ys)
 among-or_less true x y ys a = inr a
@@ -26,53 +27,6 @@ among-unfilter test x (y ∷ ys) a = at (among-cond (test y) x y (filter test ys
     at (inl h) rest = (inl h.1, ap test h.1 ∙ h.0)
     at (inr h) rest = (inr (rest h).0, (rest h).1)
 
-pub among-map : {T S : Type 0} (f : T → S) (x : T) (xs : List T) → Among x xs → Among (f x) (map f xs)
-among-map f x [] a = absurd a
-among-map f x (y ∷ ys) (inl e) = inl (ap f e)
-among-map f x (y ∷ ys) (inr a) = inr (among-map f x ys a)
-
-pub among-unmap : {T S : Type 0} (f : T → S) (y : S) (xs : List T) → Among y (map f xs) → (x : T) × Among x xs × (y ≡ f x)
-among-unmap f y [] a = absurd a
-among-unmap f y (x ∷ xs) (inl e) = (x, inl refl, e)
-among-unmap f y (x ∷ xs) (inr a) = let r = among-unmap f y xs a in (r.0, inr r.1, r.2)
-
-pub among-left : {T : Type 0} (x : T) (xs ys : List T) → Among x xs → Among x (xs ++ ys)
-among-left x [] ys a = absurd a
-among-left x (z ∷ xs) ys (inl e) = inl e
-among-left x (z ∷ xs) ys (inr a) = inr (among-left x xs ys a)
-
-pub among-right : {T : Type 0} (x : T) (xs ys : List T) → Among x ys → Among x (xs ++ ys)
-among-right x [] ys a = a
-among-right x (z ∷ xs) ys a = inr (among-right x xs ys a)
-
-pub among-append : {T : Type 0} (x : T) (xs ys : List T) → Among x (xs ++ ys) → Among x xs ⊎ Among x ys
-among-append x [] ys a = inr a
-among-append x (z ∷ xs) ys (inl e) = inl (inl e)
-among-append {T} x (z ∷ xs) ys (inr a) = at (among-append x xs ys a)
-  where
-    at : Among x xs ⊎ Among x ys → Among x (z ∷ xs) ⊎ Among x ys
-    at (inl h) = inl (inr h)
-    at (inr h) = inr h
-
--- an item that passes, and a list that has one
-pub any-among : {T : Type 0} (test : T → Bool) (xs : List T) → list_any test xs ≡ true → (x : T) × Among x xs × (test x ≡ true)
-any-among test [] e = cc
-any-among {T} test (y ∷ ys) e = at (test y) refl e (any-among test ys)
-  where
-    at : (q : Bool) → test y ≡ q → (q || list_any test ys) ≡ true → (list_any test ys ≡ true → (x : T) × Among x ys × (test x ≡ true)) →
-        (x : T) × Among x (y ∷ ys) × (test x ≡ true)
-    at true is e rest = (y, inl refl, is)
-    at false is e rest = let r = rest e in (r.0, inr r.1, r.2)
-
-pub among-any : {T : Type 0} (test : T → Bool) (x : T) (xs : List T) → Among x xs → test x ≡ true → list_any test xs ≡ true
-among-any test x [] a e = absurd a
-among-any test x (y ∷ ys) (inl same) e = ap (λ (q : Bool). q || list_any test ys) (ap test (sym same) ∙ e)
-among-any test x (y ∷ ys) (inr a) e = at (test y) (among-any test x ys a e)
-  where
-    at : (q : Bool) → list_any test ys ≡ true → (q || list_any test ys) ≡ true
-    at true h = refl
-    at false h = h
-
 pub all-pass : {T : Type 0} (test : T → Bool) (x : T) (xs : List T) → list_all test xs ≡ true → Among x xs → test x ≡ true
 all-pass test x [] e a = absurd a
 all-pass test x (y ∷ ys) e (inl same) = ap test same ∙ at (test y) e
@@ -86,38 +40,14 @@ all-pass test x (y ∷ ys) e (inr a) = all-pass test x ys (at (test y) e) a
     at true h = h
     at false h = cc
 
-pub pass-all : {T : Type 0} (test : T → Bool) (xs : List T) → ((x : T) → Among x xs → test x ≡ true) → list_all test xs ≡ true
-pass-all test [] f = refl
-pass-all test (y ∷ ys) f =
-    ap (λ (q : Bool). q && list_all test ys) (f y (inl refl)) ∙ pass-all test ys (λ x a. f x (inr a))
-
-pub all-of : {T : Type 0} (P : T → Type 0) (x : T) (xs : List T) → AllByRecursion P xs → Among x xs → P x
-all-of P x [] h a = absurd a
-all-of P x (y ∷ ys) h (inl e) = subst P (sym e) h.0
-all-of P x (y ∷ ys) h (inr a) = all-of P x ys h.1 a
-
-pub of-all : {T : Type 0} (P : T → Type 0) (xs : List T) → ((x : T) → Among x xs → P x) → AllByRecursion P xs
-of-all P [] f = tt
-of-all P (y ∷ ys) f = (f y (inl refl), of-all P ys (λ x a. f x (inr a)))
-
-pub among-get : {T : Type 0} (xs : List T) (i : ℕ) (x : T) → slice_get xs i ≡ Some x → Among x xs
-among-get [] i x e = cc
-among-get (y ∷ ys) zero x e = inl cc
-among-get (y ∷ ys) (suc i) x e = inr (among-get ys i x e)
-
 pub get-among : {T : Type 0} (x : T) (xs : List T) → Among x xs → (i : ℕ) × (slice_get xs i ≡ Some x)
 get-among x [] a = absurd a
 get-among x (y ∷ ys) (inl e) = (zero, ap (λ q. Some q) (sym e))
 get-among x (y ∷ ys) (inr a) = let r = get-among x ys a in (suc r.0, r.1)
 
-pub among-flat_map : {T S : Type 0} (f : T → List S) (x : T) (y : S) (xs : List T) → Among x xs → Among y (f x) → Among y (flat_map f xs)
-among-flat_map f x y [] a b = absurd a
-among-flat_map f x y (z ∷ zs) (inl e) b = among-left y (f z) (flat_map f zs) (subst (λ q. Among y (f q)) e b)
-among-flat_map f x y (z ∷ zs) (inr a) b = among-right y (f z) (flat_map f zs) (among-flat_map f x y zs a b)
-
 pub among-unflat_map : {T S : Type 0} (f : T → List S) (y : S) (xs : List T) → Among y (flat_map f xs) → (x : T) × Among x xs × Among y (f x)
 among-unflat_map f y [] a = absurd a
-among-unflat_map {T} f y (z ∷ zs) a = at (among-append y (f z) (flat_map f zs) a) (among-unflat_map f y zs)
+among-unflat_map {T} f y (z ∷ zs) a = at (among-split y (f z) (flat_map f zs) a) (among-unflat_map f y zs)
   where
     at : Among y (f z) ⊎ Among y (flat_map f zs) → (Among y (flat_map f zs) → (x : T) × Among x zs × Among y (f x)) → (x : T) × Among x (z ∷ zs) × Among y (f x)
     at (inl h) rest = (z, inl refl, h)
@@ -166,10 +96,6 @@ filter-map {T} {S} test other f (x ∷ xs) h =
 pub map-twice : {T S R : Type 0} (f : S → R) (g : T → S) (xs : List T) → map f (map g xs) ≡ map (λ x. f (g x)) xs
 map-twice f g [] = refl
 map-twice {R = R} f g (x ∷ xs) = ap (λ (rest : List R). f (g x) ∷ rest) (map-twice f g xs)
-
-pub all-append : {T : Type 0} (P : T → Type 0) (xs ys : List T) → AllByRecursion P xs → AllByRecursion P ys → AllByRecursion P (xs ++ ys)
-all-append P [] ys h k = k
-all-append P (x ∷ xs) ys h k = (h.0, all-append P xs ys h.1 k)
 
 pub all-filter : {T : Type 0} (P : T → Type 0) (test : T → Bool) (xs : List T) → AllByRecursion P xs → AllByRecursion P (filter test xs)
 all-filter P test [] h = tt

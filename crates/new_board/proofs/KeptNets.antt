@@ -11,15 +11,16 @@ use Rattle.mig_base.specs.declared.nets.Pull.{Pull}
 use Rattle.mig_base.specs.declared.circuit.NetKind.{NetKind}
 use Rattle.mig_base.specs.Among.{Among}
 use Rattle.mig_base.specs.Boards.{places_from, is_port, is_port_kind, is_handed, kind_at, kinds_from}
+use Rattle.mig_base.proofs.Amongs.{among-split, among-left, among-right, among-get, all-among}
 use Rattle.new_board.specs.NewFiles.{number_in}
-use Rattle.new_board.proofs.Items.{all-filter, among-append, among-left, among-right, among-get, of-all}
+use Rattle.new_board.proofs.Items.{all-filter}
 
 -- the places of what passes
 
 pub places-get : {T : Type 0} (test : T → Bool) (start : ℕ) (xs : List T) (n : ℕ) → Among n (places_from test start xs) →
     (x : T) × (slice_get xs (n - start) ≡ Some x) × (test x ≡ true) × (start ≤ n)
 places-get test start [] n a = absurd a
-places-get {T} test start (x ∷ xs) n a = at (among-append n (cond (test x) (start ∷ []) []) (places_from test (start + 1) xs) a) (places-get test (start + 1) xs n)
+places-get {T} test start (x ∷ xs) n a = at (among-split n (cond (test x) (start ∷ []) []) (places_from test (start + 1) xs) a) (places-get test (start + 1) xs n)
   where
     first : (q : Bool) → test x ≡ q → Among n (cond q (start ∷ []) []) → (n ≡ start) × (test x ≡ true)
     first true e (inl same) = (same, e)
@@ -63,7 +64,7 @@ places-different test start (x ∷ xs) = at (test x) (places-different test (sta
     later n a e = let low : start + 1 ≤ n = (places-get test (start + 1) xs n a).3 in omega arith
 
     at : (q : Bool) → AreDifferent (places_from test (start + 1) xs) → AreDifferent (cond q (start ∷ []) [] ++ places_from test (start + 1) xs)
-    at true rest = (of-all (λ m. m ≡ start → ⊥) (places_from test (start + 1) xs) later, rest)
+    at true rest = (all-among (λ m. m ≡ start → ⊥) (places_from test (start + 1) xs) later, rest)
     at false rest = rest
 
 pub filter-different : (test : ℕ → Bool) (ns : List ℕ) → AreDifferent ns → AreDifferent (filter test ns)
@@ -79,7 +80,7 @@ append-different [] ys h k apart = k
 append-different (x ∷ xs) ys h k apart = (at xs h.0, append-different xs ys h.1 k (λ z y a. apart z y (inr a)))
   where
     at : (zs : List ℕ) → AllByRecursion (λ m. m ≡ x → ⊥) zs → AllByRecursion (λ m. m ≡ x → ⊥) (zs ++ ys)
-    at [] g = of-all (λ m. m ≡ x → ⊥) ys (λ y a. apart x y (inl refl) a)
+    at [] g = all-among (λ m. m ≡ x → ⊥) ys (λ y a. apart x y (inl refl) a)
     at (z ∷ zs) g = (g.0, at zs g.1)
 
 -- the number of what is there, and what is there at a number

@@ -16,20 +16,17 @@ use Rattle.mig_base.specs.First.{made_from}
 use Rattle.mig_base.specs.Among.{Among}
 use Rattle.mig_base.specs.DeviceTables.{ordinary_pins}
 use Rattle.mig_base.specs.Boards.{places_from, is_port, is_port_kind, kind_at, kinds_from, kinds_of, privates}
+use Rattle.mig_base.proofs.ListLaws.{item-at}
+use Rattle.mig_base.proofs.Amongs.{among-split, among-left, among-right, among-any, among-get}
+use Rattle.mig_base.proofs.PlaceLaws.{length-kinds_from}
 use Rattle.new_board.specs.NewChip.{OldBoard, NewChip, private_from}
 use Rattle.new_board.specs.InputPins.{pin_net}
 use Rattle.new_board.specs.NewFiles.{wire_at, stands_on, number_in, new_number, new_wires, fitted}
 use Rattle.new_board.specs.declared.types.PinNet.{PinNet}
-use Rattle.new_board.proofs.Items.{filter-all, filter-none, among-filter, among-unfilter, among-append, among-left, among-right, among-any, among-get, among-filter_map, among-unfilter_map}
-use Rattle.new_board.proofs.Wiring.{inner_kind, length-kinds_from, get-left, get-right}
+use Rattle.new_board.proofs.Items.{filter-all, filter-none, among-filter, among-unfilter, among-filter_map, among-unfilter_map}
+use Rattle.new_board.proofs.Wiring.{inner_kind, get-left, get-right}
 use Rattle.new_board.proofs.NewWiring.{rebuilt_net, kept_of, IsNumbered, NumbersFit}
 use Rattle.new_board.proofs.KeptNets.{AreDifferent, places-get, get-places, places-different, filter-different, append-different, number-get, get-number, number-below, filter_map-get, filter_map-length, filter_map-places, handed_before, kind_line, kinds-get, ports-handed}
-
--- an item within a list
-pub item-at : {T : Type 0} (xs : List T) (i : ℕ) → i < length xs → (x : T) × (slice_get xs i ≡ Some x)
-item-at [] i h = absurd (omega arith)
-item-at (x ∷ xs) zero h = (x, refl)
-item-at (x ∷ xs) (suc i) h = item-at xs i (omega arith)
 
 abbrev pub pick : Net → ℕ → Option NetLine
 pick net n = slice_get net.nets (n - 2)
@@ -68,7 +65,7 @@ inner-line b news n a =
     no_port false e = refl
 
 pub kept-line : (b : OldBoard) (news : List NewChip) (n : ℕ) → Among n (kept_of b news) → IsLine b.net n
-kept-line b news n a = at (among-append n (port_places b.net) (inner_places b news) a)
+kept-line b news n a = at (among-split n (port_places b.net) (inner_places b news) a)
   where
     at : Among n (port_places b.net) ⊎ Among n (inner_places b news) → IsLine b.net n
     at (inl h) = (port-line b.net n h).0

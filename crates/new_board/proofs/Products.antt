@@ -8,7 +8,9 @@ use Rattle.mig_base.specs.declared.circuit.Levels.{Levels}
 use Rattle.mig_base.specs.Levels.{and3}
 use Rattle.mig_base.specs.Values.{literal_value, product_value}
 use Rattle.mig_base.specs.Among.{Among}
-use Rattle.new_board.proofs.Items.{any-among, among-any, all-pass, pass-all}
+use Rattle.mig_base.proofs.ListLaws.{both-ways}
+use Rattle.mig_base.proofs.Amongs.{any-among, among-any, pass-all}
+use Rattle.new_board.proofs.Items.{all-pass}
 
 abbrev is_zero : Level → Bool
 is_zero Zero = true
@@ -46,12 +48,6 @@ product-tests l (x ∷ xs) =
 -- each literal of the one product has a literal of the same value in the other
 pub record Covers (l m : Levels) (xs ys : List Literal) : Type 0 where
   pub each : (x : Literal) → Among x xs → (y : Literal) × Among y ys × (literal_value l x ≡ literal_value m y)
-
-pub both-ways : (p q : Bool) → (p ≡ true → q ≡ true) → (q ≡ true → p ≡ true) → p ≡ q
-both-ways true true f g = refl
-both-ways false false f g = refl
-both-ways true false f g = sym (f refl)
-both-ways false true f g = g refl
 
 some-test : (test : Level → Bool) (l m : Levels) (xs ys : List Literal) → Covers l m xs ys →
     list_any (λ x. test (literal_value l x)) xs ≡ true → list_any (λ y. test (literal_value m y)) ys ≡ true

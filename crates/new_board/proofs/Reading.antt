@@ -2,28 +2,21 @@
 use Rattle.std.proofs.Common.{ℕ, ◌≡◌, Bool, true, false, not, ◌&&◌, [], Option, Some, None, is_some, is_none, refl, sym, ap, ◌∙◌, subst, inl, inr, ◌⊎◌, eqb, eqb-true, eq-eqb}
 use Rattle.std.specs.Prelude.{option_and_then}
 use Rattle.std.specs.List.{list_any}
-use Rattle.std.proofs.lemmas.Bool.{and_parts}
+use Rattle.std.proofs.lemmas.Bool.{and_parts, not-true}
 use Rattle.mig_base.specs.declared.kinds.Kind.{Kind}
 use Rattle.mig_base.specs.declared.circuit.Read.{Read}
-use Rattle.mig_base.specs.declared.circuit.Read.TheVariants.{OfNet, OfRegister}
 use Rattle.mig_base.specs.Among.{Among}
 use Rattle.mig_base.specs.DeviceTables.{pair_pins, ordinary_pins, is_ordinary, clock_pin, enable_pin, is_v8}
 use Rattle.mig_base.specs.Boards.{net_of}
 use Rattle.mig_base.specs.Structure.{same_read, variable_of}
+use Rattle.mig_base.proofs.ReadLaws.{read-same, same-read}
+use Rattle.mig_base.proofs.Amongs.{any-among, among-any}
 use Rattle.new_board.specs.declared.types.PlacedUnit.{PlacedUnit}
 use Rattle.new_board.specs.NewChip.{OldBoard, NewChip, unit_on, register_on, placed_register, unit_net, clock_net, enable_net, first_registered, fixed_net, or_option, when, net_literal, read_by, is_literal_of, is_read, is_read_at, needed_variables}
 use Rattle.new_board.specs.InputPins.{wire_for, is_free, free_pins, input_variables, input_pins, input_at, stood, stood_on, chip_from, anywhere, take_pins, pin_net, pin_reads, reading_pin}
-use Rattle.new_board.proofs.Items.{among-filter, among-unfilter, any-among, among-any}
-use Rattle.new_board.proofs.Variables.{read-same, same-read}
+use Rattle.new_board.proofs.Items.{among-filter, among-unfilter}
 use Rattle.new_board.proofs.Columns.{among-first}
 use Rattle.new_board.proofs.Taking.{IsTaking, none-taking, take-taking, take-grows, none-suited, IsOwn, take-places}
-
-pub net-number : (n m : ℕ) → OfNet n ≡ OfNet m → n ≡ m
-net-number n m e = ap number e
-  where
-    number : Read → ℕ
-    number (OfNet n) = n
-    number (OfRegister k) = 0
 
 pub reading-some : (b : OldBoard) (chip : NewChip) (v : Read) (pin : ℕ) → Among pin (pair_pins chip.kind chip.mode) → is_literal_of v (pin_reads b chip pin) ≡ true →
     (p : ℕ) × (reading_pin b chip v ≡ Some p)
@@ -54,10 +47,6 @@ pub record IsFree (b : OldBoard) (chip : NewChip) (pin : ℕ) : Type 0 where
 none-of : {T : Type 0} (o : Option T) → is_none o ≡ true → o ≡ None
 none-of None e = refl
 none-of (Some x) e = cc
-
-not-true : (q : Bool) → not q ≡ true → q ≡ false
-not-true true e = sym e
-not-true false e = refl
 
 pub free-pin : (b : OldBoard) (chip : NewChip) (pin : ℕ) → Among pin (free_pins b chip) → IsFree b chip pin
 free-pin b chip pin a =

@@ -7,11 +7,12 @@ use Rattle.mig_base.specs.declared.circuit.Read.TheVariants.{OfNet, OfRegister}
 use Rattle.mig_base.specs.declared.circuit.Circuit.{Circuit}
 use Rattle.mig_base.specs.Among.{Among}
 use Rattle.mig_base.specs.Structure.{same_read, variable_of, alias_of, or_alias}
+use Rattle.mig_base.proofs.Amongs.{among-any, among-split}
+use Rattle.mig_base.proofs.ReadLaws.{same-read}
 use Rattle.new_board.specs.declared.types.PlacedUnit.{PlacedUnit}
 use Rattle.new_board.specs.NewChip.{OldBoard, NewChip, placed_register, is_read, net_literal, read_by, is_literal_of, is_register_of, can_stand, when, or_option, first_of, needed_variables}
 use Rattle.new_board.specs.InputPins.{Taken, wire_for, free_pins, input_variables, input_pins, input_at, has_pin, take_pins, stood, anywhere, pin_net, pin_reads, reading_pin, is_served, first_unserved}
-use Rattle.new_board.proofs.Items.{among-filter, among-unfilter, among-any, among-append, filter-none}
-use Rattle.new_board.proofs.Variables.{same-read}
+use Rattle.new_board.proofs.Items.{among-filter, among-unfilter, filter-none}
 use Rattle.new_board.proofs.Columns.{first-among}
 use Rattle.new_board.proofs.Taking.{step, step-cases, has-placed, none-suited, take-places, take-grows}
 use Rattle.new_board.proofs.Reading.{EnableApart, Stood, reading-some, read-readable, free-pin, free-fixed, input-taking, stood-own}
@@ -22,7 +23,7 @@ abbrev AreFrom : List Read → List Taken → Type 0
 AreFrom vs taken = (t : Taken) → Among t taken → Among t.0 vs
 
 step-from : (suits : Read → ℕ → Bool) (pins : List ℕ) (taken : List Taken) (v : Read) (vs : List Read) → Among v vs → AreFrom vs taken → AreFrom vs (step suits pins taken v)
-step-from suits pins taken v vs a from = step-cases (AreFrom vs) suits pins taken v from (λ pin o t h. at pin t (among-append t taken ((v, pin) ∷ []) h))
+step-from suits pins taken v vs a from = step-cases (AreFrom vs) suits pins taken v from (λ pin o t h. at pin t (among-split t taken ((v, pin) ∷ []) h))
   where
     at : (pin : ℕ) (t : Taken) → Among t taken ⊎ Among t ((v, pin) ∷ []) → Among t.0 vs
     at pin t (inl h) = from t h

@@ -1,14 +1,15 @@
 -- Variables take input pins: each that stood on a free pin of its own gets one.
 use Rattle.std.proofs.Common.{ℕ, ◌≡◌, Bool, true, false, not, cond, ◌&&◌, ◌||◌, List, [], ◌∷◌, ◌++◌, Option, Some, None, refl, sym, ap, ◌∙◌, subst, inl, inr, ◌⊎◌, eqb, eqb-true, eq-eqb}
 use Rattle.std.specs.List.{filter}
-use Rattle.std.proofs.lemmas.Bool.{and_parts}
+use Rattle.std.proofs.lemmas.Bool.{and_parts, not-true}
 use Rattle.mig_base.specs.declared.circuit.Read.{Read}
 use Rattle.mig_base.specs.Among.{Among}
 use Rattle.mig_base.specs.Structure.{same_read}
+use Rattle.mig_base.proofs.Amongs.{among-left, among-right, among-split, any-among, among-any}
+use Rattle.mig_base.proofs.ReadLaws.{read-same, same-read}
 use Rattle.new_board.specs.NewChip.{first_of}
 use Rattle.new_board.specs.InputPins.{Taken, has_pin, is_taken, taking, take_pins, input_at}
-use Rattle.new_board.proofs.Items.{among-filter, among-unfilter, among-left, among-right, among-append, any-among, among-any}
-use Rattle.new_board.proofs.Variables.{read-same, same-read}
+use Rattle.new_board.proofs.Items.{among-filter, among-unfilter}
 use Rattle.new_board.proofs.Columns.{first-among, among-first}
 
 -- each variable stands on a pin of these, and on each pin one at most
@@ -50,15 +51,11 @@ pub record IsOpen (suits : Read → ℕ → Bool) (pins : List ℕ) (taken : Lis
   pub free : is_taken taken pin ≡ false
   pub suited : suits v pin ≡ true
 
-is-false : (q : Bool) → not q ≡ true → q ≡ false
-is-false true e = sym e
-is-false false e = refl
-
 first-open : (suits : Read → ℕ → Bool) (pins : List ℕ) (taken : List Taken) (v : Read) (pin : ℕ) → first_of (open_pins suits pins taken v) ≡ Some pin → IsOpen suits pins taken v pin
 first-open suits pins taken v pin e =
     let kept = among-unfilter (λ p. not (is_taken taken p) && suits v p) pin pins (first-among (open_pins suits pins taken v) pin e) in
     let parts = and_parts (not (is_taken taken pin)) (suits v pin) kept.1 in
-    record { within = kept.0; free = is-false (is_taken taken pin) parts.0; suited = parts.1 }
+    record { within = kept.0; free = not-true (is_taken taken pin) parts.0; suited = parts.1 }
 
 -- a step leaves the list as it is, or adds the variable on an open pin
 pub step-cases : (P : List Taken → Type 0) (suits : Read → ℕ → Bool) (pins : List ℕ) (taken : List Taken) (v : Read) →
@@ -72,8 +69,8 @@ step-cases P suits pins taken v stays adds = at (has_pin taken v) (first_of (ope
 
 add-taking : (suits : Read → ℕ → Bool) (pins : List ℕ) (taken : List Taken) (v : Read) (pin : ℕ) → IsTaking pins taken → IsOpen suits pins taken v pin → IsTaking pins (taken ++ (v, pin) ∷ [])
 add-taking suits pins taken v pin t open_ = record {
-  within = λ x a. within_at x (among-append x taken ((v, pin) ∷ []) a);
-  found = λ x a. found_at x (among-append x taken ((v, pin) ∷ []) a);
+  within = λ x a. within_at x (among-split x taken ((v, pin) ∷ []) a);
+  found = λ x a. found_at x (among-split x taken ((v, pin) ∷ []) a);
 }
   where
     within_at : (x : Taken) → Among x taken ⊎ Among x ((v, pin) ∷ []) → Among x.1 pins
@@ -107,7 +104,7 @@ pub none-suited : (suits : Read → ℕ → Bool) → IsSuited suits []
 none-suited suits = record { each = λ t a. absurd a }
 
 add-suited : (suits : Read → ℕ → Bool) (pins : List ℕ) (taken : List Taken) (v : Read) (pin : ℕ) → IsSuited suits taken → IsOpen suits pins taken v pin → IsSuited suits (taken ++ (v, pin) ∷ [])
-add-suited suits pins taken v pin s open_ = record { each = λ x a. at x (among-append x taken ((v, pin) ∷ []) a) }
+add-suited suits pins taken v pin s open_ = record { each = λ x a. at x (among-split x taken ((v, pin) ∷ []) a) }
   where
     at : (x : Taken) → Among x taken ⊎ Among x ((v, pin) ∷ []) → suits x.0 x.1 ≡ true
     at x (inl a) = s.each x a

@@ -2,7 +2,7 @@
 use Rattle.std.proofs.Common.{ℕ, ◌≡◌, ◌<◌, ◌≤◌, Bool, true, false, not, cond, ◌&&◌, ◌||◌, List, [], ◌∷◌, map, length, Option, Some, None, is_some, refl, sym, ap, ◌∙◌, subst, inl, inr, ◌⊎◌, eqb, eqb-true, eq-eqb, lt-ltb, arith, IsTrue}
 use Rattle.std.specs.Prelude.{option_and_then}
 use Rattle.std.specs.List.{list_any, filter, slice_get, AllByRecursion}
-use Rattle.std.proofs.lemmas.Bool.{and_from, cases_lt}
+use Rattle.std.proofs.lemmas.Bool.{and_from, cases_lt, or_right}
 use Rattle.std.proofs.lemmas.List.{length-map}
 use Rattle.mig_base.specs.declared.kinds.Kind.{Kind}
 use Rattle.mig_base.specs.declared.kinds.Kind.TheVariants.{Gal16V8, Gal20V8, Gal22V10, Gal22V10Q}
@@ -20,8 +20,9 @@ use Rattle.mig_base.specs.Among.{Among}
 use Rattle.mig_base.specs.DeviceTables.{cell_pins, pal_registers, enable_pin, is_22, is_gal}
 use Rattle.mig_base.specs.Cells.{is_among, columns_of, pair_columns, lit_of, idle}
 use Rattle.mig_base.specs.WellFormed.{FitsCell, IsWellFormed, fits_row, fits_control, has_mode, has_form, has_inversions, has_enable_row, is_simple, is_always, is_never, is_low_pin, is_reg, most_terms, registers_in, chip_columns, rises_in}
-use Rattle.new_board.proofs.Items.{among-map, among-unmap, among-filter, among-unfilter, any-among, among-any, of-all, among-left, among-right}
-use Rattle.new_board.proofs.Products.{both-ways}
+use Rattle.mig_base.proofs.Amongs.{map-among, among-map, any-among, among-any, all-among, among-left, among-right}
+use Rattle.mig_base.proofs.ListLaws.{both-ways}
+use Rattle.new_board.proofs.Items.{among-filter, among-unfilter}
 use Rattle.new_board.specs.declared.types.PlacedUnit.{PlacedUnit}
 use Rattle.new_board.specs.NewChip.{OldBoard, NewChip, unit_on, placed_register, register_on, is_registered_unit, first_registered, unit_products, products_by, comb_products, gate_products, controls_of, control_products}
 use Rattle.new_board.specs.NewFiles.{registered_pins, new_columns, new_product, new_terms, new_enable, new_row, new_comb, new_reg, pin_low_of, cell_by, cell_of, new_cell, reset_gate, preset_gate, new_cells, is_full, has_full_row}
@@ -86,7 +87,7 @@ registers-fit b chip fit = record { each = λ pin. both-ways _ _ (there pin) (ba
     there : (pin : ℕ) → is_among (registered_pins b chip) pin ≡ true → is_some (register_on b.circuit chip pin) ≡ true
     there pin e =
         let p = any-among (λ p. eqb p pin) (registered_pins b chip) e in
-        let x = among-unmap (λ (x : PlacedUnit). x.pin) p.0 (filter (is_registered_unit b.circuit) chip.units) p.1 in
+        let x = among-map (λ (x : PlacedUnit). x.pin) p.0 (filter (is_registered_unit b.circuit) chip.units) p.1 in
         let kept = among-unfilter (is_registered_unit b.circuit) x.0 chip.units x.1 in
         let same : x.0.pin ≡ pin = sym x.2 ∙ eqb-true p.0 pin p.2 in
         ap (λ (q : ℕ). is_some (register_on b.circuit chip q)) (sym same)
@@ -100,7 +101,7 @@ registers-fit b chip fit = record { each = λ pin. both-ways _ _ (there pin) (ba
         at (Some x) is e =
             let found = on-unit chip.units pin x is in
             among-any (λ p. eqb p pin) x.pin (registered_pins b chip)
-            (among-map (λ (x : PlacedUnit). x.pin) x (filter (is_registered_unit b.circuit) chip.units) (among-filter (is_registered_unit b.circuit) x chip.units found.0 e))
+            (map-among (λ (x : PlacedUnit). x.pin) x (filter (is_registered_unit b.circuit) chip.units) (among-filter (is_registered_unit b.circuit) x chip.units found.0 e))
             (eq-eqb x.pin pin found.1)
 
 comb-unregistered : (b : OldBoard) (chip : NewChip) (pin : ℕ) (x : PlacedUnit) (g : Gate) → is_reg (new_comb b chip pin x g).form ≡ false
@@ -130,9 +131,9 @@ cells-registered b chip fit pin = both-ways _ _ (λ e. registers.each pin ∙ th
     there : is_among (registers_in (map (new_cell b chip) (cell_pins chip.kind))) pin ≡ true → is_some (register_on b.circuit chip pin) ≡ true
     there e =
         let p = any-among (λ p. eqb p pin) (registers_in (map (new_cell b chip) (cell_pins chip.kind))) e in
-        let cell = among-unmap (λ (c : Cell). c.pin) p.0 (filter (λ (c : Cell). is_reg c.form) (map (new_cell b chip) (cell_pins chip.kind))) p.1 in
+        let cell = among-map (λ (c : Cell). c.pin) p.0 (filter (λ (c : Cell). is_reg c.form) (map (new_cell b chip) (cell_pins chip.kind))) p.1 in
         let kept = among-unfilter (λ (c : Cell). is_reg c.form) cell.0 (map (new_cell b chip) (cell_pins chip.kind)) cell.1 in
-        let q = among-unmap (new_cell b chip) cell.0 (cell_pins chip.kind) kept.0 in
+        let q = among-map (new_cell b chip) cell.0 (cell_pins chip.kind) kept.0 in
         let same : q.0 ≡ pin = sym (cell-pin b chip q.0) ∙ sym (ap (λ (c : Cell). c.pin) q.2) ∙ sym cell.2 ∙ eqb-true p.0 pin p.2 in
         ap (λ (k : ℕ). is_some (register_on b.circuit chip k)) (sym same) ∙ sym (cell-registered b chip q.0) ∙ sym (ap (λ (c : Cell). is_reg c.form) q.2) ∙ kept.1
 
@@ -145,8 +146,8 @@ cells-registered b chip fit pin = both-ways _ _ (λ e. registers.each pin ∙ th
             let found = on-unit chip.units pin x is in
             let its : Among pin (cell_pins chip.kind) = subst (λ (q : ℕ). Among q (cell_pins chip.kind)) found.1 (fit.units x found.0).cell in
             among-any (λ p. eqb p pin) (new_cell b chip pin).pin (registers_in (map (new_cell b chip) (cell_pins chip.kind)))
-            (among-map (λ (c : Cell). c.pin) (new_cell b chip pin) (filter (λ (c : Cell). is_reg c.form) (map (new_cell b chip) (cell_pins chip.kind)))
-            (among-filter (λ (c : Cell). is_reg c.form) (new_cell b chip pin) (map (new_cell b chip) (cell_pins chip.kind)) (among-map (new_cell b chip) pin (cell_pins chip.kind) its) (cell-registered b chip pin ∙ e)))
+            (map-among (λ (c : Cell). c.pin) (new_cell b chip pin) (filter (λ (c : Cell). is_reg c.form) (map (new_cell b chip) (cell_pins chip.kind)))
+            (among-filter (λ (c : Cell). is_reg c.form) (new_cell b chip pin) (map (new_cell b chip) (cell_pins chip.kind)) (map-among (new_cell b chip) pin (cell_pins chip.kind) its) (cell-registered b chip pin ∙ e)))
             (eq-eqb (new_cell b chip pin).pin pin (cell-pin b chip pin))
 
 -- the columns depend on which pins are registered alone
@@ -194,8 +195,8 @@ rows-fit b chip x lits fit a = not-full b chip lits (none-full b chip (unit_prod
 
 terms-fit : (b : OldBoard) (chip : NewChip) (terms : List (List Literal)) → ((lits : List Literal) → Among lits terms → fits_row (new_columns b chip) (new_product b chip lits) ≡ true) →
     AllByRecursion (λ (term : List Lit). IsTrue (fits_row (new_columns b chip) term)) (new_terms b chip terms)
-terms-fit b chip terms each = of-all (λ (term : List Lit). IsTrue (fits_row (new_columns b chip) term)) (new_terms b chip terms) (λ t a.
-    let lits = among-unmap (new_product b chip) t terms a in
+terms-fit b chip terms each = all-among (λ (term : List Lit). IsTrue (fits_row (new_columns b chip) term)) (new_terms b chip terms) (λ t a.
+    let lits = among-map (new_product b chip) t terms a in
     subst (λ (ls : List Lit). IsTrue (fits_row (new_columns b chip) ls)) (sym lits.2) (each lits.0 lits.1))
 
 terms-few : (b : OldBoard) (chip : NewChip) (terms : List (List Literal)) (n : ℕ) → length terms ≤ n → length (new_terms b chip terms) ≤ n
@@ -229,15 +230,11 @@ reg-enable : (q : Bool) (columns : List Lit) (p : ℕ) (e : Enable) → (q ≡ t
 reg-enable true columns p e h = h refl
 reg-enable false columns p e h = eq-eqb p p refl
 
-right-or : (p q : Bool) → q ≡ true → (p || q) ≡ true
-right-or true q e = refl
-right-or false q e = e
-
 never-or-row : (b : OldBoard) (chip : NewChip) (g : Gate) → RegistersFit b chip → ((lits : List Literal) → Among lits (gate_products g) → IsReadable b chip lits)
     → ((lits : List Literal) → Among lits (gate_products g) → fits_row (new_columns b chip) (new_product b chip lits) ≡ true) → (is_never (new_enable b chip g) || has_enable_row (new_columns b chip) (new_enable b chip g)) ≡ true
 never-or-row b chip Never registers readable fits = refl
 never-or-row b chip (Product lits) registers readable fits =
-    right-or (is_never (new_enable b chip (Product lits))) _ (new-enable b chip lits registers (readable lits (inl refl)) (fits lits (inl refl)))
+    or_right (is_never (new_enable b chip (Product lits))) _ (new-enable b chip lits registers (readable lits (inl refl)) (fits lits (inl refl)))
 
 enable-among : (q : Bool) (lits : List Literal) (k : ℕ) (x : PlacedUnit) → q ≡ true → Among lits (gate_products x.enable) → Among lits (products_by q (Some k) x)
 enable-among true lits k x e a = among-right lits x.terms (gate_products x.enable) a
@@ -326,8 +323,8 @@ chip-well b chip fit =
       mode = fit.mode;
       pins = pins-made b chip (cell_pins chip.kind);
       cells = subst (λ (cs : List Lit). AllByRecursion (FitsCell chip.kind chip.mode cs) (map (new_cell b chip) (cell_pins chip.kind))) columns
-          (of-all (FitsCell chip.kind chip.mode (new_columns b chip)) (map (new_cell b chip) (cell_pins chip.kind)) (λ c a.
-          let p = among-unmap (new_cell b chip) c (cell_pins chip.kind) a in
+          (all-among (FitsCell chip.kind chip.mode (new_columns b chip)) (map (new_cell b chip) (cell_pins chip.kind)) (λ c a.
+          let p = among-map (new_cell b chip) c (cell_pins chip.kind) a in
           subst (λ (c : Cell). FitsCell chip.kind chip.mode (new_columns b chip) c) (sym p.2) (cell-fits b chip p.0 fit)));
       reset = subst (λ (cs : List Lit). fits_control chip.kind cs (new_row b chip (reset_gate (first_registered b.circuit chip))) ≡ true) columns
           (control-row b chip (reset_gate (first_registered b.circuit chip)) fit.no_reset (λ lits e a. controls-fit b chip lits fit e (reset-among (first_registered b.circuit chip) lits a)));

@@ -5,7 +5,6 @@ use Rattle.std.specs.Option.{option_map}
 use Rattle.std.proofs.lemmas.Bool.{and_parts, cases_eq}
 use Rattle.std.proofs.lemmas.Option.{same_Some}
 use Rattle.mig_base.specs.declared.nets.Net.{Net}
-use Rattle.mig_base.specs.declared.nets.NetLine.{NetLine}
 use Rattle.mig_base.specs.declared.nets.ChipLine.{ChipLine}
 use Rattle.mig_base.specs.declared.nets.PinLine.{PinLine}
 use Rattle.mig_base.specs.declared.nets.Pull.{Pull}
@@ -15,12 +14,14 @@ use Rattle.mig_base.specs.declared.circuit.NetKind.TheVariants.{Inner}
 use Rattle.mig_base.specs.declared.circuit.Wire.{Wire}
 use Rattle.mig_base.specs.Among.{Among}
 use Rattle.mig_base.specs.DeviceTables.{ordinary_pins}
-use Rattle.mig_base.specs.Boards.{At, same_at, place_of, line_at, pins_from, privates, or_private, net_of, ChipUnit, places_from, kinds_from, kinds_of, wires_from, drives, is_handed}
+use Rattle.mig_base.specs.Boards.{At, same_at, place_of, line_at, pins_from, privates, or_private, net_of, ChipUnit, places_from, kinds_from, kinds_of, wires_from, drives}
+use Rattle.mig_base.proofs.PlaceLaws.{length-kinds_from}
+use Rattle.mig_base.proofs.Amongs.{map-among, among-left, among-right}
 use Rattle.new_board.specs.NewChip.{OldBoard, private_from, or_option}
 use Rattle.new_board.specs.NewFiles.{wire_at, new_number, new_pins_from}
 use Rattle.new_board.specs.declared.types.PinNet.{PinNet}
 use Rattle.new_board.specs.declared.types.FittedChip.{FittedChip}
-use Rattle.new_board.proofs.Items.{among-filter, among-map, among-left, among-right}
+use Rattle.new_board.proofs.Items.{among-filter}
 
 -- an item of a joined list, by its place
 
@@ -72,10 +73,6 @@ wires-get net units start [] i = refl
 wires-get net units start (k ∷ ks) zero = ap (λ n. Some (wire_of net units n k)) (omega arith)
 wires-get net units start (k ∷ ks) (suc i) =
     wires-get net units (start + 1) ks i ∙ ap (λ n. option_map (wire_of net units n) (slice_get ks i)) (omega arith)
-
-pub length-kinds_from : (place : ℕ) (ls : List NetLine) → length (kinds_from place ls) ≡ length ls
-length-kinds_from place [] = refl
-length-kinds_from place (l ∷ ls) = ap suc (length-kinds_from (cond (is_handed l.port) (place + 1) place) ls)
 
 abbrev pub inner_kind : At → NetKind × Pull
 inner_kind q = (Inner, pull.Free)
@@ -235,7 +232,7 @@ among-pins start zero j (d ∷ cs) c pin e at a =
     let is : start ≡ j = omega arith in
     subst (λ (k : ℕ). Among (k, pin) (pins_from start (d ∷ cs))) is
     (among-left (start, pin) (map (λ p. (start, p)) (ordinary_pins d.kind)) (pins_from (start + 1) cs)
-    (among-map (λ p. (start, p)) pin (ordinary_pins d.kind) (subst (λ (q : ChipLine). Among pin (ordinary_pins q.kind)) (sym same) a)))
+    (map-among (λ p. (start, p)) pin (ordinary_pins d.kind) (subst (λ (q : ChipLine). Among pin (ordinary_pins q.kind)) (sym same) a)))
 among-pins start (suc i) j (d ∷ cs) c pin e at a =
     among-right (j, pin) (map (λ p. (start, p)) (ordinary_pins d.kind)) (pins_from (start + 1) cs) (among-pins (start + 1) i j cs c pin e (omega arith) a)
 

@@ -1,5 +1,5 @@
 -- Each old chip becomes one of the same name, and each unit keeps its pin and its rows.
-use Rattle.std.specs.Prelude.{ℕ, ◌+◌, false, ◌==◌, List, [], ◌∷◌, ◌++◌, map, if◌then◌else◌, Option, Some, None, slice_get, slice_index_or}
+use Rattle.std.specs.Prelude.{ℕ, ◌+◌, false, ◌==◌, List, [], ◌∷◌, ◌++◌, map, if◌then◌else◌, Option, Some, None, slice_get}
 use Rattle.mig_base.specs.declared.kinds.Kind.{Kind}
 use Rattle.mig_base.specs.declared.kinds.Kind.TheVariants.{Pal16L8, Pal16R4, Pal16R6, Pal16R8, Pal20L8, Pal20R4, Pal20R6, Pal20R8, Gal16V8, Gal20V8}
 use Rattle.mig_base.specs.declared.kinds.Mode.{Mode}
@@ -20,6 +20,7 @@ use Rattle.mig_base.specs.declared.plans.PlanLine.{PlanLine}
 use Rattle.mig_base.specs.declared.plans.PlanLine.TheVariants.{Place}
 use Rattle.mig_base.specs.Boards.{ChipUnit, units_from, circuit}
 use Rattle.mig_base.specs.Structure.{variable_product, variable_gate}
+use Rattle.mig_base.specs.WrittenBoard.{chip_name}
 use Rattle.new_board.specs.declared.types.PlacedUnit.{PlacedUnit}
 use Rattle.new_board.specs.NewChip.{OldBoard, NewChip}
 
@@ -112,13 +113,9 @@ same_chips_from b j (line ∷ lines) (cells ∷ chips) = same_chip b j line cell
 abbrev pub same_chips : Net → List ChipCells → List NewChip
 same_chips net chips = same_chips_from (old_board net chips) 0 net.chips chips
 
--- the name of a chip by its number
-abbrev pub chip_named_at : Net → ℕ → List ℕ
-chip_named_at net j = slice_index_or (map (λ c. c.name) net.chips) j []
-
 -- a unit on its pin of the chip of its old name
 abbrev pub place_line : Net → ChipUnit → PlanLine
-place_line net u = Place (record { chip = chip_named_at net u.chip; pin = u.cell.pin }) (chip_named_at net u.chip) u.cell.pin
+place_line net u = Place (record { chip = chip_name net u.chip; pin = u.cell.pin }) (chip_name net u.chip) u.cell.pin
 
 -- a chip as a plan names it
 abbrev pub plan_chip : NewChip → PlanChip

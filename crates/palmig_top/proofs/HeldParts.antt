@@ -1,7 +1,7 @@
 -- What a board that was loaded keeps.
-use Rattle.std.proofs.Common.{ℕ, ◌≡◌, ◌≤◌, Bool, true, false, ◌&&◌, List, [], ◌∷◌, length, Option, Some, None, Result, Ok, Err, refl, sym, ap, ◌∙◌, subst, inl, inr}
+use Rattle.std.proofs.Common.{ℕ, ◌≡◌, ◌≤◌, Bool, true, false, List, [], ◌∷◌, length, Option, Some, None, Result, Ok, Err, refl, sym, ap, ◌∙◌, subst, inl, inr}
 use Rattle.std.specs.Prelude.{nat_le}
-use Rattle.std.proofs.lemmas.Bool.{leb-true}
+use Rattle.std.proofs.lemmas.Bool.{leb-true, and_parts}
 use Rattle.mig_base.specs.declared.cells.ChipCells.{ChipCells}
 use Rattle.mig_base.specs.declared.nets.Net.{Net}
 use Rattle.mig_base.specs.declared.nets.ChipLine.{ChipLine}
@@ -100,14 +100,10 @@ read-writable net r = given-writable r.0 net r.1
 pub read-given : (parts : Joined) → IsReadBoard parts → IsGiven parts.net parts.chips
 read-given parts r = record { wiring = read-writable parts.net r.wiring; cells = r.chips }
 
-and-parts : (a b : Bool) → (a && b) ≡ true → (a ≡ true) × (b ≡ true)
-and-parts true b e = (refl, e)
-and-parts false b e = cc
-
 pub taken-board : (parts : Joined) → IsReadBoard parts → is_taken_board parts ≡ true → TakenBoard parts.net parts.chips
 taken-board parts r taken =
     let writable = read-writable parts.net r.wiring in
-    let both = and-parts (is_taken_wiring parts.net) (is_taken_form parts.net parts.chips) taken in
+    let both = and_parts (is_taken_wiring parts.net) (is_taken_form parts.net parts.chips) taken in
     record {
       wiring = both.0;
       names = writable.distinct_chips;

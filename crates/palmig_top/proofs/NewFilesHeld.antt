@@ -1,10 +1,11 @@
 -- The new files are held after they were placed.
-use Rattle.std.proofs.Common.{ℕ, ◌≡◌, ◌≢◌, Bool, true, false, cond, ◌&&◌, ◌||◌, not, List, [], ◌∷◌, ◌++◌, map, length, Some, Ok, Err, refl, sym, ap, ◌∙◌, arith}
+use Rattle.std.proofs.Common.{ℕ, ◌≡◌, ◌≢◌, Bool, true, false, cond, ◌||◌, not, List, [], ◌∷◌, ◌++◌, map, length, Some, Ok, Err, refl, sym, ap, ◌∙◌, arith}
 use Rattle.std.specs.Prelude.{codes}
 use Rattle.std.specs.List.{AllByRecursion, list_any}
 use Rattle.std.specs.Str.{bytes_eq}
 use Rattle.std.proofs.lemmas.List.{append_cancel_left, append_cancel_right}
 use Rattle.std.proofs.lemmas.Slice.Eq.{bytes_eq-Decides}
+use Rattle.std.proofs.lemmas.Bool.{and_parts, not-true}
 use Rattle.mig_base.specs.declared.kinds.Kind.{Kind}
 use Rattle.mig_base.specs.declared.kinds.Kind.TheVariants.{Gal16V8, Gal20V8}
 use Rattle.mig_base.specs.declared.cells.ChipCells.{ChipCells}
@@ -126,10 +127,6 @@ built-chip k stem f v8 well content =
       made = again;
     }
 
-and-parts : (a b : Bool) → (a && b) ≡ true → (a ≡ true) × (b ≡ true)
-and-parts true b e = (refl, e)
-and-parts false b e = cc
-
 lacks-one : (stem name : List ℕ) (f : FittedChip) (fs : List FittedChip) (rest : List File) (b : Bool) → bytes_eq name f.name ≡ b → (b || list_any (bytes_eq name) (map (λ g. g.name) fs)) ≡ false →
     (list_any (bytes_eq name) (map (λ g. g.name) fs) ≡ false → Lacks (jed_file stem name) (map (chip_file stem) fs ++ rest)) → Lacks (jed_file stem name) (map (chip_file stem) (f ∷ fs) ++ rest)
 lacks-one stem name f fs rest true q e more = cc
@@ -140,19 +137,15 @@ lacks-named : (stem name : List ℕ) (fs : List FittedChip) → list_any (bytes_
 lacks-named stem name [] e rest p = p
 lacks-named stem name (f ∷ fs) e rest p = lacks-one stem name f fs rest (bytes_eq name f.name) refl e (λ (more : list_any (bytes_eq name) (map (λ g. g.name) fs) ≡ false). lacks-named stem name fs more rest p)
 
-not-any : (b : Bool) → not b ≡ true → b ≡ false
-not-any true e = cc
-not-any false e = refl
-
 -- the fuse files of all chips
 pub built-chips : (stem : List ℕ) (rest : List File) → ((name : List ℕ) → Lacks (jed_file stem name) rest) → (fs : List FittedChip) (h : Held) →
     are_distinct bytes_eq (map (λ f. f.name) fs) ≡ true → AllByRecursion (λ f. is_v8 f.cells.kind ≡ true) fs → AllByRecursion (λ f. IsWellFormed f.cells) fs →
     HoldsChips (placed_all (map (chip_file stem) fs ++ rest) h) stem (map new_chip_line fs) (map (λ f. f.cells) fs)
 built-chips stem rest apart [] h distinct v8 well = tt
 built-chips stem rest apart (f ∷ fs) h distinct v8 well =
-    let parts = and-parts (not (list_any (bytes_eq f.name) (map (λ g. g.name) fs))) (are_distinct bytes_eq (map (λ g. g.name) fs)) distinct in
+    let parts = and_parts (not (list_any (bytes_eq f.name) (map (λ g. g.name) fs))) (are_distinct bytes_eq (map (λ g. g.name) fs)) distinct in
     let content : placed_all (map (chip_file stem) (f ∷ fs) ++ rest) h (jed_file stem f.name) ≡ Some (written_fuses f.cells.kind (chip_fuses f.cells)) =
-    kept (jed_file stem f.name) (map (chip_file stem) fs ++ rest) (placed (chip_file stem f).0 (Some (chip_file stem f).1) h) (lacks-named stem f.name fs (not-any _ parts.0) rest (apart f.name))
+    kept (jed_file stem f.name) (map (chip_file stem) fs ++ rest) (placed (chip_file stem f).0 (Some (chip_file stem f).1) h) (lacks-named stem f.name fs (not-true _ parts.0) rest (apart f.name))
     ∙ ap (λ (b : Bool). cond b (Some (chip_file stem f).1) (h (jed_file stem f.name))) (same-name (jed_file stem f.name)) in (
       built-chip (placed_all (map (chip_file stem) (f ∷ fs) ++ rest) h) stem f v8.0 well.0 content,
       built-chips stem rest apart fs (placed (chip_file stem f).0 (Some (chip_file stem f).1) h) parts.1 v8.1 well.1,

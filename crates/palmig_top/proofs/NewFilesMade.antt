@@ -1,7 +1,6 @@
 -- What is made for saving, step by step.
-use Rattle.std.proofs.Common.{ℕ, suc, ◌≡◌, Bool, true, false, List, [], ◌∷◌, ◌++◌, map, length, Result, Ok, Err, MatchResult, refl, sym, ap, ◌∙◌, subst}
+use Rattle.std.proofs.Common.{ℕ, ◌≡◌, Bool, true, false, List, [], ◌∷◌, ◌++◌, map, length, Result, Ok, Err, MatchResult, refl, sym, ap, ◌∙◌, subst}
 use Rattle.std.specs.Prelude.{IfOk}
-use Rattle.std.specs.Prelude.{◌&&◌}
 use Rattle.std.specs.List.{AllByRecursion}
 use Rattle.mig_base.specs.declared.kinds.Kind.{Kind}
 use Rattle.mig_base.specs.declared.kinds.Kind.TheVariants.{Gal16V8}
@@ -15,19 +14,17 @@ use Rattle.mig_base.specs.DeviceTables.{is_v8}
 use Rattle.mig_base.specs.WellFormed.{IsWellFormed}
 use Rattle.mig_base.specs.WrittenBoard.{written_net, IsWritable}
 use Rattle.mig_base.specs.WrittenPlan.{written_plan}
-use Rattle.mig_base.specs.WrittenCells.{v8_fuses}
 use Rattle.mig_base.specs.WrittenFuses.{written_fuses}
 use Rattle.new_board.specs.declared.types.FittedChip.{FittedChip}
 use Rattle.new_board.specs.Files.{NewFile, chip_fuses, fuse_file, file_under, last_files}
 use Rattle.new_board.specs.OneForOne.{one_for_one}
-use Rattle.taken_boards.specs.TakenBoards.{is_taken_wiring, are_taken_ports, is_taken_circuit}
-use Rattle.mig_base.specs.Given.{AreMade}
 use Rattle.rebuilt_boards.specs.RebuiltBoards.{IsBuiltWell, built_chips}
 use Rattle.answers.specs.declared.exit.Exit.{Exit}
 use Rattle.answers.specs.declared.exit.Exit.TheVariants.{Refused, Memory}
 use Rattle.answers.specs.declared.exit.Refusal.TheVariants.{Later}
 use Rattle.answers.specs.declared.words.Migration.{Migration}
 use Rattle.board.specs.Joined.{Joined, equations_of}
+use Rattle.board.proofs.GivenLaws.{made-long}
 use Rattle.palmig_top.specs.declared.prepared.Prepared.{Prepared}
 use Rattle.verdicts.specs.HeldBoard.{net_file, plan_file, jed_file}
 use Rattle.verdicts.specs.Outcomes.{File, Outcome, only_if, done}
@@ -37,7 +34,7 @@ use Rattle.palmig_top.specs.Reading.{IsReadBoard}
 use Rattle.palmig_top.specs.Preparing.{outcome_in, IsWritableChip}
 use Rattle.rebuilt_boards.proofs.BuiltWell.{built-well}
 use Rattle.palmig_top.proofs.HeldParts.{read-writable, taken-board}
-use Rattle.palmig_top.proofs.NewFilesHeld.{chip_file, fuses-v8}
+use Rattle.palmig_top.proofs.NewFilesHeld.{chip_file}
 
 -- the text of a chip's fuses
 pub fuse-text-made : {V E : Type 0} (items : V → List ℕ) (k : Kind) (bits : List Bool) (cells : ChipCells) (r : Result V E) → bits ≡ chip_fuses cells →
@@ -62,15 +59,9 @@ pub files-more : (stem : List ℕ) (front more : List FittedChip) (c : FittedChi
 files-more stem front more c old new e was now =
     now ∙ ap (λ (q : List File). q ++ chip_file stem c ∷ []) was ∙ sym (files-append stem front c) ∙ ap (λ (q : List FittedChip). map (chip_file stem) q) (sym e)
 
-as-many : (lines : List ChipLine) (chips : List ChipCells) → AreMade lines chips → length chips ≡ length lines
-as-many [] [] r = refl
-as-many [] (c ∷ cs) r = absurd r
-as-many (l ∷ ls) [] r = absurd r
-as-many (l ∷ ls) (c ∷ cs) r = ap suc (as-many ls cs r.1)
-
 -- as many cells as chip lines were read
 pub read-as-many : (parts : Joined) → IsReadBoard parts → length parts.chips ≡ length parts.net.chips
-read-as-many parts r = as-many parts.net.chips parts.chips r.chips
+read-as-many parts r = made-long parts.net.chips parts.chips r.chips
 
 built-of : (parts : Joined) → IsReadBoard parts → is_taken_board parts ≡ true → IsBuiltWell parts.net parts.chips
 built-of parts r form = built-well parts.net parts.chips (read-writable parts.net r.wiring) (taken-board parts r form)

@@ -20,6 +20,7 @@ use Rattle.mig_base.specs.First.{or_else, first_refusal}
 use Rattle.mig_base.specs.Lines.{TextLine, text_lines, number_of}
 use Rattle.mig_base.specs.Names.{is_name}
 use Rattle.mig_base.specs.WellFormed.{has_mode}
+use Rattle.mig_base.proofs.ListLaws.{snoc-append}
 use Rattle.plan_text.specs.declared.says.Said.{Said}
 use Rattle.plan_text.specs.declared.says.Said.TheVariants.{Head, Chip, OtherKind, Place, Absorb, End, Wrong}
 use Rattle.plan_text.specs.declared.lines.SaidLine.{SaidLine}
@@ -205,10 +206,6 @@ few-more before l few h =
       chips = subst (λ (cs : List PlanChip). length cs ≤ 64) (sym (filter_map-append (λ k. chip_said k.says) before (l ∷ []))) (chip-room before l.n l.says passed few.chips);
       units = subst (λ (us : List PlanLine). length us ≤ 1024) (sym (filter_map-append (λ k. unit_said k.says) before (l ∷ []))) (unit-room before l.n l.says passed few.units);
     }
-
-snoc-append : {T : Type 0} (xs : List T) (y : T) (ys : List T) → (xs ++ y ∷ []) ++ ys ≡ xs ++ y ∷ ys
-snoc-append [] y ys = refl
-snoc-append {T} (x ∷ xs) y ys = ap (λ (zs : List T). x ∷ zs) (snoc-append xs y ys)
 
 few-all : (before lines : List SaidLine) → AreFew before → first_refusal line_refusal before lines ≡ None → AreFew (before ++ lines)
 few-all before [] few h = subst AreFew (sym (append-nil before)) few

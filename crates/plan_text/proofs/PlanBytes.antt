@@ -5,8 +5,6 @@ use Rattle.std.specs.List.{AllByRecursion, flat_map, join_with_byte}
 use Rattle.std.specs.Fmt.{decimal}
 use Rattle.std.proofs.lemmas.Fmt.{length-decimal-le}
 use Rattle.std.proofs.lemmas.List.{length-map}
-use Rattle.mig_base.specs.declared.kinds.Kind.{Kind}
-use Rattle.mig_base.specs.declared.kinds.Kind.TheVariants.{Pal16L8}
 use Rattle.mig_base.specs.declared.kinds.Mode.{Mode}
 use Rattle.mig_base.specs.declared.kinds.Mode.TheVariants.{Fixed, Simple, Complex, Registered}
 use Rattle.mig_base.specs.declared.nets.PinName.{PinName}
@@ -14,10 +12,11 @@ use Rattle.mig_base.specs.declared.plans.Plan.{Plan}
 use Rattle.mig_base.specs.declared.plans.PlanChip.{PlanChip}
 use Rattle.mig_base.specs.declared.plans.PlanLine.{PlanLine}
 use Rattle.mig_base.specs.declared.plans.PlanLine.TheVariants.{Place, Absorb}
-use Rattle.mig_base.specs.DeviceTables.{kind_name}
 use Rattle.mig_base.specs.Limits.{most_file_bytes}
 use Rattle.mig_base.specs.WrittenBoard.{written_line}
 use Rattle.mig_base.specs.WrittenPlan.{mode_words, pin_word, plan_chip_line, plan_line, plan_lines, written_plan}
+use Rattle.mig_base.proofs.ListLaws.{all-append}
+use Rattle.mig_base.proofs.KindFacts.{kind-name-length}
 use Rattle.plan_text.specs.PlanSize.{IsShortPin, IsShortLine, IsShort}
 
 -- the bytes of words, and one behind each
@@ -51,10 +50,6 @@ text-size (ws ∷ ls) h =
     let whole : length (written_line ws ++ flat_map written_line ls) ≡ length (written_line ws) + length (flat_map written_line ls) = length-append (written_line ws) (flat_map written_line ls) in
     omega arith
 
-kind-size : (k : Kind) → length (kind_name k) ≤ 9
-kind-size Pal16L8 = lit≤ tt
-kind-size _ = lit≤ tt
-
 mode-size : (m : Mode) → words_size (mode_words m) ≤ 11
 mode-size Fixed = lit≤ tt
 mode-size Simple = lit≤ tt
@@ -62,7 +57,7 @@ mode-size Complex = lit≤ tt
 mode-size Registered = lit≤ tt
 
 chip-short : (c : PlanChip) → length c.name ≤ 24 → IsShortWords (plan_chip_line c)
-chip-short c small = let k = kind-size c.kind in let m = mode-size c.mode in let w : length (codes "chip") ≡ 4 = refl in omega arith
+chip-short c small = let k = kind-name-length c.kind in let m = mode-size c.mode in let w : length (codes "chip") ≡ 4 = refl in omega arith
 
 pin-size : (u : PinName) → IsShortPin u → length (pin_word u) ≤ 28
 pin-size u h =
@@ -83,10 +78,6 @@ line-short (Absorb unit) h = let old = pin-size unit h in let w : length (codes 
 all-map : {S T : Type 0} (P : S → Type 0) (Q : T → Type 0) (f : S → T) (xs : List S) → ((x : S) → P x → Q (f x)) → AllByRecursion P xs → AllByRecursion Q (map f xs)
 all-map P Q f [] g h = tt
 all-map P Q f (x ∷ xs) g h = (g x h.0, all-map P Q f xs g h.1)
-
-all-append : {T : Type 0} (P : T → Type 0) (xs ys : List T) → AllByRecursion P xs → AllByRecursion P ys → AllByRecursion P (xs ++ ys)
-all-append P [] ys f g = g
-all-append P (x ∷ xs) ys f g = (f.0, all-append P xs ys f.1 g)
 
 -- a short plan has few bytes
 pub plan-bytes : (p : Plan) → IsShort p → length (written_plan p) ≤ most_file_bytes

@@ -1,12 +1,11 @@
 -- The words of a written plan are plain, and say what they were written for.
-use Rattle.std.proofs.Common.{ℕ, ◌≡◌, ◌+◌, ◌<◌, ◌≤◌, Bool, true, false, cond, not, ◌&&◌, eqb, List, [], ◌∷◌, ◌++◌, length, drop, refl, sym, ap, ◌∙◌, arith, Option, Some, None, length-append, inl, inr}
+use Rattle.std.proofs.Common.{ℕ, ◌≡◌, ◌+◌, ◌≤◌, Bool, true, false, cond, not, ◌&&◌, eqb, List, [], ◌∷◌, ◌++◌, length, drop, refl, sym, ap, ◌∙◌, arith, Option, Some, None, length-append}
 use Rattle.std.specs.Prelude.{nat_le, nat_lt, codes}
 use Rattle.std.specs.List.{AllByRecursion, list_all, position, position_or_len}
 use Rattle.std.specs.Option.{option_and_then}
 use Rattle.std.specs.Fmt.{decimal}
 use Rattle.std.proofs.Math.Seq.{take-append_seam, drop-append-add}
-use Rattle.std.proofs.lemmas.Bool.{and_parts, and_from, cases_lt, le-leb, lt-ltb, leb-true, eqb-true}
-use Rattle.std.proofs.lemmas.Bool.Decides.{nat_tests}
+use Rattle.std.proofs.lemmas.Bool.{and_parts, and_from, le-leb, lt-ltb, leb-true, eqb-true}
 use Rattle.std.proofs.lemmas.List.Folds.{list_all-append}
 use Rattle.mig_base.specs.declared.kinds.Kind.{Kind}
 use Rattle.mig_base.specs.declared.kinds.Mode.{Mode}
@@ -20,10 +19,11 @@ use Rattle.mig_base.specs.Lines.{number_of}
 use Rattle.mig_base.specs.Names.{is_name, is_name_byte}
 use Rattle.mig_base.specs.WellFormed.{has_mode}
 use Rattle.mig_base.specs.WrittenPlan.{mode_words, pin_word, plan_chip_line, plan_line}
-use Rattle.mig_base.proofs.KindFacts.{every-kind, kind-read}
+use Rattle.mig_base.proofs.KindFacts.{kind-read}
 use Rattle.mig_base.proofs.TextLemmas.{name-bytes}
 use Rattle.text_lines.proofs.Numerals.{number-decimal, decimal-spells, IsDigit}
 use Rattle.text_lines.proofs.WrittenLines.{is_plain_word, is_plain_line}
+use Rattle.text_lines.proofs.PlainWords.{name-plain, high-bytes, kind-plain}
 use Rattle.plan_text.specs.declared.says.Said.{Said}
 use Rattle.plan_text.specs.declared.says.Said.TheVariants as said
 use Rattle.plan_text.specs.PlanText.{if_gal, gal_named, chip_of, pin_numbered, pin_of, pin_cut, pin_named, place_of, absorb_of, says, is_plan_chip, is_plan_pin, is_plan_line}
@@ -32,21 +32,6 @@ use Rattle.plan_text.specs.PlanText.{if_gal, gal_named, chip_of, pin_numbered, p
 abbrev pub unit_says : PlanLine → Said
 unit_says (Place unit chip pin) = said.Place unit (record { chip = chip; pin = pin })
 unit_says (Absorb unit) = said.Absorb unit
-
--- bytes of names are no blanks and no dots
-low-byte : (b : ℕ) → b < 33 → is_name_byte b ≡ false
-low-byte b h = grind (arith, nat_tests)
-
-high-byte : (b : ℕ) → is_name_byte b ≡ true → nat_le 33 b ≡ true
-high-byte b h = elim (cases_lt b 33) [ inl low ↦ let e : true ≡ false = sym h ∙ low-byte b low in absurd (let no : ⊥ = cc in no) | inr high ↦ le-leb 33 b high ]
-
-high-bytes : (bs : List ℕ) → list_all is_name_byte bs ≡ true → list_all (nat_le 33) bs ≡ true
-high-bytes [] h = refl
-high-bytes (b ∷ bs) h = let parts : (is_name_byte b ≡ true) × (list_all is_name_byte bs ≡ true) = and_parts _ _ h in and_from _ _ (high-byte b parts.0) (high-bytes bs parts.1)
-
-name-plain : (name : List ℕ) → is_name name ≡ true → is_plain_word name ≡ true
-name-plain [] h = cc
-name-plain (b ∷ bs) h = high-bytes (b ∷ bs) (name-bytes (b ∷ bs) h)
 
 digits-high : (ds : List ℕ) → AllByRecursion IsDigit ds → list_all (nat_le 33) ds ≡ true
 digits-high [] h = refl
@@ -105,9 +90,6 @@ pin-plain u h = some u.chip named.0
 pub record IsLineOf (words : List (List ℕ)) (s : Said) : Type 0 where
   pub plain : is_plain_line words ≡ true
   pub says : says words ≡ s
-
-kind-plain : (k : Kind) → is_plain_word (kind_name k) ≡ true
-kind-plain k = every-kind (λ j. is_plain_word (kind_name j)) refl k
 
 gal-read : (k : Kind) → is_gal k ≡ true → gal_named (kind_name k) ≡ Some k
 gal-read k h = ap (option_and_then if_gal) (kind-read k) ∙ ap (λ (t : Bool). cond t (Some k) None) h

@@ -1,5 +1,6 @@
 -- A plan has one breach at most, and none exactly where it breaks no rule.
 use Rattle.std.proofs.Common.{ℕ, ◌≡◌, ◌≤◌, List, [], ◌∷◌, length, sym, ap, ◌∙◌, subst, arith, refl, inl, inr}
+use Rattle.std.proofs.lemmas.Option.{same_Some}
 use Rattle.mig_base.specs.declared.circuit.Read.{Read}
 use Rattle.mig_base.specs.declared.plans.Plan.{Plan}
 use Rattle.mig_base.specs.declared.plans.PlanLine.TheVariants.{Place, Absorb}
@@ -20,7 +21,7 @@ use Rattle.plans.specs.LineBreaches.{chip_twice, unit_unknown, unit_twice, chip_
 use Rattle.plans.specs.UnitBreaches.{wrong_mode, wrong_clock, wrong_phase, controls, GivesWidePart, GivesConeWide, GivesPrimesOver, GivesReset, GivesEnable, IsLeastCount, GivesTermsOver}
 use Rattle.plans.specs.ChipBreaches.{GivesNoInput, GivesFullRow}
 use Rattle.plans.specs.Breaches.{Rule, ChipTwice, UnitUnknown, UnitTwice, ChipUnknown, NoCell, PinTaken, NotAbsorbable, Unplaced, WrongMode, WrongClock, WrongPhase, ConeWide, PrimesOver, WrongReset, WrongEnable, TermsOver, NoInput, FullRow, all_rules, RuleGives, IsBreach, HasNoBreach}
-use Rattle.plans.proofs.Firsts.{GivesOne, some-same, first-one, says-one, none-first, none-each}
+use Rattle.plans.proofs.Firsts.{GivesOne, first-one, says-one, none-first, none-each}
 use Rattle.plans.proofs.Cones.{cone-one}
 use Rattle.plans.proofs.FormLaws.{chip-one}
 
@@ -66,7 +67,7 @@ terms-over-one b absorbed z x y h k =
 no-input-one : (b : Joined) (p : Plan) → GivesOne (GivesNoInput b p)
 no-input-one b p c x y h k =
     let chip : h.chip ≡ k.chip = chip-one b p c h.chip k.chip h.is_new k.is_new in
-    let same : h.variable ≡ k.variable = some-same h.variable k.variable (sym h.first ∙ ap (first_unserved (old b)) chip ∙ k.first) in
+    let same : h.variable ≡ k.variable = same_Some h.variable k.variable (sym h.first ∙ ap (first_unserved (old b)) chip ∙ k.first) in
     h.names ∙ ap (λ (v : Read). breach.NoInput c.name (var_of b.chips v)) same ∙ sym k.names
 
 full-row-one : (b : Joined) (p : Plan) → GivesOne (GivesFullRow b p)

@@ -1,10 +1,12 @@
 -- A cone has one list of variables, and a joined part one function.
-use Rattle.std.proofs.Common.{ℕ, suc, ◌≡◌, ◌<◌, ◌↔◌, Bool, true, false, List, [], ◌∷◌, map, refl, sym, ◌∙◌, subst, inl, inr, arith}
+use Rattle.std.proofs.Common.{ℕ, suc, ◌≡◌, ◌<◌, ◌↔◌, Bool, true, List, [], ◌∷◌, map, refl, sym, ◌∙◌, subst, inl, inr, arith}
 use Rattle.std.specs.List.{AllPairs, Contains}
 use Rattle.mig_base.specs.Among.{Among}
 use Rattle.mig_base.specs.declared.nets.Var.{Var}
 use Rattle.mig_base.specs.declared.nets.Var.TheVariants.{Net, Reg}
 use Rattle.mig_base.specs.declared.nets.VarProduct.{VarProduct}
+use Rattle.mig_base.proofs.ListLaws.{both-ways}
+use Rattle.mig_base.proofs.Amongs.{map-among, among-map}
 use Rattle.rails.specs.Variables.{IsBefore}
 use Rattle.structure.specs.Pure.{IsPure}
 use Rattle.board.specs.Joined.{Joined, equations_of}
@@ -12,7 +14,6 @@ use Rattle.board.specs.Variables.{read_of}
 use Rattle.joiner.specs.Joined.{IsCone, Inverted}
 use Rattle.joiner.specs.JoinedPart.{IsJoinedPart}
 use Rattle.primes.specs.Prime.{Point, Function}
-use Rattle.new_board.proofs.Items.{among-map, among-unmap}
 
 -- rising lists with the same items are the same
 
@@ -61,23 +62,18 @@ before-both (Reg k) (Reg j) a b = less-both k j a b
 abbrev name : Var × Bool → Var
 name w = w.0
 
-same-flags : (p q : Bool) → (p ≡ true → q ≡ true) → (q ≡ true → p ≡ true) → p ≡ q
-same-flags true q a b = sym (a refl)
-same-flags false true a b = b refl
-same-flags false false a b = refl
-
 abbrev IsPureVar : Joined → Var → Type 0
 IsPureVar b v = IsPure (equations_of b) (read_of b.chips v)
 
 cone-among : (b : Joined) (absorbed : List ℕ) (terms : List VarProduct) (vs ws : List (Var × Bool)) → IsCone b absorbed terms vs → IsCone b absorbed terms ws → (w : Var × Bool) → Among w vs → Among w ws
 cone-among b absorbed terms vs ws h k w a =
-    let there : Among w.0 (map name ws) = (k.exact w.0).1 ((h.exact w.0).0 (among-map name w vs a)) in
-    let found = among-unmap name w.0 ws there in
+    let there : Among w.0 (map name ws) = (k.exact w.0).1 ((h.exact w.0).0 (map-among name w vs a)) in
+    let found = among-map name w.0 ws there in
     let pure : (found.0.1 ≡ true) ↔ (w.1 ≡ true) = (
       (λ e. (h.pure w a).1 (subst (IsPureVar b) (sym found.2) ((k.pure found.0 found.1).0 e))),
       (λ e. (k.pure found.0 found.1).1 (subst (IsPureVar b) found.2 ((h.pure w a).0 e))),
     ) in
-    let flag = same-flags found.0.1 w.1 pure.0 pure.1 in
+    let flag = both-ways found.0.1 w.1 pure.0 pure.1 in
     subst (λ (x : Var × Bool). Among x ws) (λ i. (sym found.2 i, flag i)) found.1
 
 pub cone-one : (b : Joined) (absorbed : List ℕ) (terms : List VarProduct) (vs ws : List (Var × Bool)) → IsCone b absorbed terms vs → IsCone b absorbed terms ws → vs ≡ ws

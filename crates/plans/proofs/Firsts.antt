@@ -1,14 +1,12 @@
 -- The first item that gives something gives one thing.
-use Rattle.std.proofs.Common.{◌≡◌, List, [], ◌∷◌, Option, Some, None, refl, sym, ap, ◌∙◌, subst, inl, inr}
+use Rattle.std.proofs.Common.{◌≡◌, List, [], ◌∷◌, Option, Some, None, refl, sym, ◌∙◌, subst, inl, inr}
+use Rattle.std.proofs.lemmas.Option.{same_Some}
 use Rattle.mig_base.specs.Among.{Among}
 use Rattle.plans.specs.FirstOf.{FirstOf, NoneOf, Says, AreEach}
 
 abbrev or_this : {T : Type 0} → T → Option T → T
 or_this x None = x
 or_this x (Some y) = y
-
-pub some-same : {T : Type 0} (x y : T) → Some x ≡ Some y → x ≡ y
-some-same x y e = ap (or_this x) e
 
 -- items give one thing each
 abbrev pub GivesOne : {T E : Type 0} → (T → E → Type 0) → Type 0
@@ -23,7 +21,7 @@ first-one gives one (t ∷ ts) x y (inr h) (inr k) = first-one gives one ts x y 
 
 -- what a test says is one thing
 pub says-one : {T E : Type 0} (test : T → Option E) → GivesOne (Says test)
-says-one test t x y h k = some-same x y (sym h ∙ k)
+says-one test t x y h k = same_Some x y (sym h ∙ k)
 
 -- there is no first exactly where no item gives anything
 pub none-first : {T E : Type 0} (gives : T → E → Type 0) (ts : List T) → ((t : T) (x : E) → gives t x → ⊥) → NoneOf gives ts

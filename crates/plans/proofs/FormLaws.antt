@@ -1,6 +1,7 @@
 -- A placed unit has one form, and a plan one new chip for each of its chips.
 use Rattle.std.proofs.Common.{ℕ, ◌≡◌, Bool, true, false, cond, List, [], ◌∷◌, Option, Some, None, refl, sym, ap, ◌∙◌, subst}
 use Rattle.std.specs.Option.{option_map}
+use Rattle.std.proofs.lemmas.Option.{same_Some}
 use Rattle.mig_base.specs.declared.nets.Var.{Var}
 use Rattle.mig_base.specs.declared.plans.Plan.{Plan}
 use Rattle.mig_base.specs.declared.plans.PlanChip.{PlanChip}
@@ -20,7 +21,7 @@ use Rattle.new_board.specs.NewChip.{NewChip, gate_products}
 use Rattle.plans.specs.declared.placing.Placing.{Placing}
 use Rattle.plans.specs.Placings.{absorbed_units, placings_on}
 use Rattle.plans.specs.Forms.{Products, Try, Old, Direct, Inverse, Room, LogicForm, IsCoverOf, IsCovered, cover_products, IsOffered, Fits, IsForm, tries, IsControlBy, IsControl, IsGate, AreRows, IsNewChip, reads_absorbed, room_of}
-use Rattle.plans.proofs.Firsts.{some-same, first-one, each-one}
+use Rattle.plans.proofs.Firsts.{first-one, each-one}
 use Rattle.plans.proofs.Cones.{cone-one, function-one}
 
 cover-one : (f : Function) (ts us : Option (List Product)) → IsCoverOf f ts → IsCoverOf f us → ts ≡ us
@@ -49,7 +50,7 @@ offered-one b absorbed u Inverse ps qs h k = covered-one b absorbed (unit_part b
 
 fits-one : (b : Joined) (absorbed : List ℕ) (u : ℕ) (room : Room) (t : Try) (x y : LogicForm) → Fits b absorbed u room t x → Fits b absorbed u room t y → x ≡ y
 fits-one b absorbed u room t x y h k =
-    let terms : x.terms ≡ y.terms = some-same x.terms y.terms (offered-one b absorbed u t (Some x.terms) (Some y.terms) h.offered k.offered) in
+    let terms : x.terms ≡ y.terms = same_Some x.terms y.terms (offered-one b absorbed u t (Some x.terms) (Some y.terms) h.offered k.offered) in
     let low : x.low ≡ y.low = h.inversion ∙ sym k.inversion in
     (λ i. record { low = low i; terms = terms i })
 
@@ -73,7 +74,7 @@ gate-again (gate.Product lits) = refl
 
 pub gate-one : (b : Joined) (absorbed : List ℕ) (u : ℕ) (q : Part) (g h : Gate) → IsGate b absorbed u q g → IsGate b absorbed u q h → g ≡ h
 gate-one b absorbed u q g h x y =
-    let e = some-same (gate_products g) (gate_products h) (control-one b absorbed u q (Some (gate_products g)) (Some (gate_products h)) x y) in
+    let e = same_Some (gate_products g) (gate_products h) (control-one b absorbed u q (Some (gate_products g)) (Some (gate_products h)) x y) in
     sym (gate-again g) ∙ ap gate_of e ∙ gate-again h
 
 pub rows-one : (b : Joined) (absorbed : List ℕ) (x : Placing) (r s : PlacedUnit) → AreRows b absorbed x r → AreRows b absorbed x s → r ≡ s

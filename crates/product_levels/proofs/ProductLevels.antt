@@ -1,8 +1,7 @@
 -- In settled levels products over variables have the values of the products that they are made of.
-use Rattle.std.proofs.Common.{ℕ, ◌≡◌, Bool, true, false, cond, ◌&&◌, ◌||◌, List, [], ◌∷◌, ◌++◌, map, Option, Some, None, refl, sym, ap, ◌∙◌, subst, inl, inr}
+use Rattle.std.proofs.Common.{ℕ, ◌≡◌, Bool, true, false, cond, List, [], ◌∷◌, ◌++◌, map, Option, Some, None, refl, sym, ap, ◌∙◌, subst, inl, inr}
 use Rattle.std.specs.Prelude.{slice_get}
 use Rattle.std.specs.List.{AllByRecursion, list_any, flat_map}
-use Rattle.std.proofs.lemmas.Bool.{and_parts}
 use Rattle.mig_base.specs.declared.levels.Level.{Level}
 use Rattle.mig_base.specs.declared.levels.Level.TheVariants.{Zero, Z}
 use Rattle.mig_base.specs.declared.plans.Part.{Part}
@@ -22,15 +21,15 @@ use Rattle.mig_base.specs.Accepted.{IsAccepted}
 use Rattle.mig_base.specs.Among.{Among}
 use Rattle.mig_base.specs.Levels.{not3, or3}
 use Rattle.mig_base.specs.Reads.{IsNode, driver_reads, gives_reads}
-use Rattle.mig_base.specs.Structure.{same_literal, same_read, alias_of, or_alias, variable_by, variable_literal, variable_product, all_variables, both_literals}
-use Rattle.mig_base.specs.Bools.{same_bool}
+use Rattle.mig_base.specs.Structure.{same_literal, alias_of, or_alias, variable_by, variable_literal, variable_product, all_variables, both_literals}
 use Rattle.mig_base.specs.Values.{source_level, literal_value, product_value, sum_value, row_value, product_reads, sum_reads, row_reads}
-use Rattle.mig_base.proofs.Amongs.{among-map, among-filter, filter-among, among-node, node-among}
-use Rattle.mig_base.proofs.ReadLaws.{read-same, same-read, bool-same, same-bool}
-use Rattle.structure.specs.Products.{var_of, var_lit, product_over, sum_over, row_over, register_logic, register_reset, register_preset, logic_over, reset_over, preset_over, unit_products, part_of, part_over, part_products}
+use Rattle.mig_base.proofs.Amongs.{among-map, among-filter, filter-among, among-node, node-among, map-among, among-any, both-among, product-among}
+use Rattle.mig_base.proofs.ReadLaws.{same-literal}
+use Rattle.mig_base.proofs.Aliases.{alias-is}
+use Rattle.structure.specs.Products.{var_lit, product_over, sum_over, row_over, register_logic, register_reset, register_preset, logic_over, reset_over, preset_over, unit_products, part_of, part_over, part_products}
 use Rattle.board.specs.Joined.{Joined, equations_of}
 use Rattle.board.specs.UnitLists.{register_units}
-use Rattle.board.specs.Variables.{read_of, var_by}
+use Rattle.board.specs.Variables.{read_of, var_of}
 use Rattle.board.proofs.BoardLaws.{var-back}
 use Rattle.level_laws.specs.Settled.{IsSettled}
 use Rattle.level_laws.specs.VariableLevels.{literal_level, product_level, terms_level}
@@ -39,47 +38,9 @@ use Rattle.settle.proofs.LevelLaws.{and-known, or-ends}
 use Rattle.read_nodes.specs.ReadsNodes.{ReadsNodes}
 use Rattle.product_levels.specs.PartLevels.{variable_level, terms_of_register, reset_of_register, preset_of_register, logic_value, reset_value, preset_value, driver_value, value_or_none, part_value}
 use Rattle.product_levels.proofs.SameProducts.{product-all, level-all, and_all-same}
-use Rattle.product_levels.proofs.AliasLevels.{alias-is, variable-value}
-
-map-among : {T S : Type 0} (f : T → S) (x : T) (xs : List T) → Among x xs → Among (f x) (map f xs)
-map-among f x [] a = absurd a
-map-among f x (y ∷ ys) (inl e) = inl (ap f e)
-map-among f x (y ∷ ys) (inr a) = inr (map-among f x ys a)
-
-any-among : {T : Type 0} (p : T → Bool) (xs : List T) → list_any p xs ≡ true → (x : T) × Among x xs × (p x ≡ true)
-any-among p [] e = cc
-any-among {T} p (x ∷ xs) e = at (p x) refl e (any-among p xs)
-  where
-    at : (b : Bool) → p x ≡ b → (b || list_any p xs) ≡ true → (list_any p xs ≡ true → (y : T) × Among y xs × (p y ≡ true)) → (y : T) × Among y (x ∷ xs) × (p y ≡ true)
-    at true is e rest = (x, inl refl, is)
-    at false is e rest = let h = rest e in (h.0, inr h.1, h.2)
-
-among-any : {T : Type 0} (p : T → Bool) (x : T) (xs : List T) → Among x xs → p x ≡ true → list_any p xs ≡ true
-among-any p x [] a e = absurd a
-among-any p x (y ∷ ys) (inl same) e = ap (λ (q : Bool). q || list_any p ys) (ap p (sym same) ∙ e)
-among-any p x (y ∷ ys) (inr a) e = at (p y) (among-any p x ys a e)
-  where
-    at : (q : Bool) → list_any p ys ≡ true → (q || list_any p ys) ≡ true
-    at true h = refl
-    at false h = h
-
-literal-same : (x y : Literal) → same_literal x y ≡ true → x ≡ y
-literal-same x y e =
-    let parts = and_parts (same_read x.source y.source) (same_bool x.high y.high) e in
-    let source : x.source ≡ y.source = read-same x.source y.source parts.0 in
-    let high : x.high ≡ y.high = bool-same x.high y.high parts.1 in
-    λ i. record { source = source i; high = high i }
-
-same-literal : (x : Literal) → same_literal x x ≡ true
-same-literal x = ap (λ q. q && same_bool x.high x.high) (same-read x.source) ∙ same-bool x.high
+use Rattle.product_levels.proofs.AliasLevels.{variable-value}
 
 -- literals of all nodes
-
-both-among : (y : Literal) (vs : List Read) → Among y (flat_map both_literals vs) → Among y.source vs
-both-among y [] a = absurd a
-both-among y (v ∷ vs) (inl e) = inl (ap (λ (x : Literal). x.source) e)
-both-among y (v ∷ vs) (inr (inl e)) = inl (ap (λ (x : Literal). x.source) e)
-both-among y (v ∷ vs) (inr (inr a)) = inr (both-among y vs a)
 
 among-both : (y : Literal) (vs : List Read) → Among y.source vs → Among y (flat_map both_literals vs)
 among-both y [] a = absurd a
@@ -91,13 +52,6 @@ among-both y (v ∷ vs) (inl e) = subst (λ (w : Read). Among y (flat_map both_l
 among-both y (v ∷ vs) (inr a) = inr (inr (among-both y vs a))
 
 -- what stands in a product over variables
-
-product-among : (c : Circuit) (y : Literal) (lits : List Literal) → Among y (variable_product c lits) → (x : Literal) × Among x lits × (y ≡ variable_literal c x)
-product-among c y lits a =
-    let kept = (among-filter (λ z. list_any (same_literal z) (map (variable_literal c) lits)) y (flat_map both_literals (all_variables c)) a).0 in
-    let found = any-among (same_literal y) (map (variable_literal c) lits) kept in
-    let old = among-map (variable_literal c) found.0 lits found.1 in
-    (old.0, old.1, literal-same y found.0 found.2 ∙ old.2)
 
 product-node : (c : Circuit) (y : Literal) (lits : List Literal) → Among y (variable_product c lits) → IsNode c y.source
 product-node c y lits a =
@@ -119,9 +73,9 @@ variable-node c reads x node = by x.source refl node
     aliased n None e h = h
     aliased n (Some a) e h =
         let i = alias-is c n a e in
-        let all : AllByRecursion (IsNode c) (row_reads i.driver.enable ++ gives_reads i.driver.gives) = subst (λ (o : Option Driver). AllByRecursion (IsNode c) (driver_reads o)) i.at (reads.units i.unit) in
+        let all : AllByRecursion (IsNode c) (row_reads i.driver.enable ++ gives_reads i.driver.gives) = subst (λ (o : Option Driver). AllByRecursion (IsNode c) (driver_reads o)) i.unit_is (reads.units i.unit) in
         let seen : AllByRecursion (IsNode c) (gives_reads i.driver.gives) = all_right (IsNode c) (row_reads i.driver.enable) (gives_reads i.driver.gives) all in
-        let one : AllByRecursion (IsNode c) (OfRegister a.0 ∷ []) = subst (λ (g : Gives). AllByRecursion (IsNode c) (gives_reads g)) i.gives seen in
+        let one : AllByRecursion (IsNode c) (OfRegister a.0 ∷ []) = subst (λ (g : Gives). AllByRecursion (IsNode c) (gives_reads g)) i.alias.gives seen in
         one.0
 
     by : (s : Read) → x.source ≡ s → IsNode c s → IsNode c (variable_by c s x).source
@@ -134,14 +88,10 @@ source-node c z (y ∷ ys) h (inl e) = subst (IsNode c) (sym (ap (λ (x : Litera
 source-node c z (y ∷ ys) h (inr a) = source-node c z ys h.1 a
 
 module _ (b : Joined) (stored inputs : List Level) (l : Levels) (accepted : IsAccepted (equations_of b)) (reads : ReadsNodes (equations_of b)) (settled : IsSettled (equations_of b) stored inputs l) where
-  same-name : (s : Read) → var_of (register_units b.chips) s ≡ var_by (register_units b.chips) s
-  same-name (OfNet n) = refl
-  same-name (OfRegister k) = refl
-
   -- a literal of a node by its variable
   named-level : (y : Literal) → IsNode (equations_of b) y.source → literal_level (variable_level b l) (var_lit (register_units b.chips) y) ≡ literal_value l y
   named-level y node =
-      let back : read_of b.chips (var_of (register_units b.chips) y.source) ≡ y.source = ap (read_of b.chips) (same-name y.source) ∙ var-back b y.source node in
+      let back : read_of b.chips (var_of b.chips y.source) ≡ y.source = var-back b y.source node in
       ap (λ (s : Read). cond y.high (source_level l s) (not3 (source_level l s))) back
 
   product-level : (lits : List Literal) → AllByRecursion (IsNode (equations_of b)) (product_reads lits) →

@@ -10,6 +10,8 @@ use Rattle.mig_base.specs.declared.nets.VarLit.{VarLit}
 use Rattle.mig_base.specs.Among.{Among}
 use Rattle.mig_base.specs.Levels.{and3}
 use Rattle.mig_base.specs.Values.{literal_value, product_value}
+use Rattle.mig_base.proofs.ListLaws.{both-ways}
+use Rattle.mig_base.proofs.Amongs.{any-among, among-any}
 use Rattle.level_laws.specs.VariableLevels.{Levelling, literal_level, product_level}
 
 -- the AND of these levels
@@ -65,23 +67,6 @@ and_all-tests (x ∷ xs) = ap (and3 x) (and_all-tests xs) ∙ and-tests x (list_
 abbrev pub AreIn : List Level → List Level → Type 0
 AreIn xs ys = (x : Level) → Among x xs → Among x ys
 
-any-among : (test : Level → Bool) (xs : List Level) → list_any test xs ≡ true → (x : Level) × Among x xs × (test x ≡ true)
-any-among test [] e = cc
-any-among test (y ∷ ys) e = at (test y) refl e (any-among test ys)
-  where
-    at : (q : Bool) → test y ≡ q → (q || list_any test ys) ≡ true → (list_any test ys ≡ true → (x : Level) × Among x ys × (test x ≡ true)) → (x : Level) × Among x (y ∷ ys) × (test x ≡ true)
-    at true is e rest = (y, inl refl, is)
-    at false is e rest = let r = rest e in (r.0, inr r.1, r.2)
-
-among-any : (test : Level → Bool) (x : Level) (xs : List Level) → Among x xs → test x ≡ true → list_any test xs ≡ true
-among-any test x [] a e = absurd a
-among-any test x (y ∷ ys) (inl same) e = ap (λ (q : Bool). q || list_any test ys) (ap test (sym same) ∙ e)
-among-any test x (y ∷ ys) (inr a) e = at (test y) (among-any test x ys a e)
-  where
-    at : (q : Bool) → list_any test ys ≡ true → (q || list_any test ys) ≡ true
-    at true h = refl
-    at false h = h
-
 all-pass : (test : Level → Bool) (x : Level) (xs : List Level) → list_all test xs ≡ true → Among x xs → test x ≡ true
 all-pass test x [] e a = absurd a
 all-pass test x (y ∷ ys) e (inl same) = ap test same ∙ (and_parts (test y) (list_all test ys) e).0
@@ -90,12 +75,6 @@ all-pass test x (y ∷ ys) e (inr a) = all-pass test x ys (and_parts (test y) (l
 pass-all : (test : Level → Bool) (xs : List Level) → ((x : Level) → Among x xs → test x ≡ true) → list_all test xs ≡ true
 pass-all test [] f = refl
 pass-all test (y ∷ ys) f = ap (λ (q : Bool). q && list_all test ys) (f y (inl refl)) ∙ pass-all test ys (λ x a. f x (inr a))
-
-both-ways : (p q : Bool) → (p ≡ true → q ≡ true) → (q ≡ true → p ≡ true) → p ≡ q
-both-ways true true f g = refl
-both-ways false false f g = refl
-both-ways true false f g = sym (f refl)
-both-ways false true f g = g refl
 
 some-test : (test : Level → Bool) (xs ys : List Level) → AreIn xs ys → list_any test xs ≡ true → list_any test ys ≡ true
 some-test test xs ys within e = let found = any-among test xs e in among-any test found.0 ys (within found.0 found.1) found.2

@@ -4,11 +4,12 @@ use Rattle.std.specs.Prelude.{IsOkAnd}
 use Rattle.bdd.specs.Tree.{Point}
 use Rattle.bdd.specs.Diagram.{Diagram, IsValid, function_of, Keeps, IsNegation}
 use Rattle.bdd.specs.declared.Ref.{Ref}
+use Rattle.bdd.proofs.GraphLemmas.{keeps_trans}
 use Rattle.mig_base.specs.declared.nets.Var.{Var}
 use Rattle.rails.specs.declared.Rail.{Rail}
 use Rattle.rails.specs.Points.{mirror, put, inverse, replacement, Is}
 use Rattle.rails.specs.Compose.{IsComposed, AreImages}
-use Rattle.rails.proofs.ComposeLemmas.{keeps_trans, function_kept}
+use Rattle.rails.proofs.ComposeLemmas.{function_kept}
 use Rattle.rails.proofs.ImageLemmas.{composed_is, mirror_past, put_past}
 
 pub ok_and : {E : Type 0} (P Q : Ref → Type 0) (o : Result Ref E) → IsOkAnd o P → ((r : Ref) → P r → Q r) → IfOk o Q

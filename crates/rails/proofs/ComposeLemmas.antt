@@ -15,16 +15,6 @@ same_ref = (ref_eq.ghosts).eq
 same_ref_exact : (x y : Ref) → same_ref x y ≡ true → x ≡ y
 same_ref_exact x y h = let e = eqb-true x.0 y.0 h in (λ i. record { 0 = e i })
 
-pub keeps_refl : (d : Diagram) → Keeps d d
-keeps_refl d = record { vars = refl; valid = λ f l. l; tree = λ f l. refl }
-
-pub keeps_trans : (a b c : Diagram) → Keeps a b → Keeps b c → Keeps a c
-keeps_trans a b c k l = record {
-  vars = l.vars ∙ k.vars;
-  valid = λ f v. l.valid f (k.valid f v);
-  tree = λ f v. l.tree f (k.valid f v) ∙ k.tree f v;
-}
-
 value_kept : (a b : Diagram) → Keeps a b → (p : Point) (v : ℕ) (o : Option Ref) → IfSome o (IsValid a) → value_of b p v o ≡ value_of a p v o
 value_kept a b k p v None h = refl
 value_kept a b k p v (Some r) h = ap (λ t. holds t p) (k.tree r h)

@@ -7,6 +7,7 @@ use Rattle.bdd.specs.Tree.{Point, holds}
 use Rattle.bdd.specs.Diagram.{Diagram, IsValid, function_of, Keeps}
 use Rattle.bdd.specs.declared.Ref.{Ref}
 use Rattle.mig_base.specs.declared.nets.Var.{Var}
+use Rattle.mig_base.proofs.ListLaws.{get-past}
 use Rattle.rails.specs.declared.Side.{Side}
 use Rattle.rails.specs.declared.Side.TheVariants.{Pure, High, Low}
 use Rattle.rails.specs.declared.Rail.{Rail}
@@ -58,23 +59,13 @@ images_valid d change rs h v = by (slice_get rs v) (h.each v)
     by None h = tt
     by (Some r) h = h.valid
 
-none_past : {X : Type 0} (xs : List X) (n : ℕ) → slice_get xs n ≡ None → length xs ≤ n
-none_past xs n e = elim (cases n (length xs)) [ inr l ↦ l | inl l ↦ by xs l e ]
-  where
-    cases : (n m : ℕ) → (n < m) ⊎ (m ≤ n)
-    cases n m = grind arith
-
-    by : {X : Type 0} (xs : List X) {n : ℕ} → n < length xs → slice_get xs n ≡ None → length xs ≤ n
-    by [] l e = absurd (omega arith)
-    by (x ∷ xs) {n = n} l e = let s = slice_get-get_or (x ∷ xs) n x l in cc
-
 -- the point of the images is the changed one
 image_change : (d : Diagram) (change : Point → Point) (rs : List Ref) (p : Point) → AreImages d change rs → ((n : ℕ) → length rs ≤ n → change p n ≡ p n)
     → (n : ℕ) → image d rs p n ≡ change p n
 image_change d change rs p h out n = by (slice_get rs n) refl (h.each n)
   where
     by : (o : Option Ref) → slice_get rs n ≡ o → IfSome o (Is d (λ q. change q n)) → value_of d p n o ≡ change p n
-    by None e h = sym (out n (none_past rs n e))
+    by None e h = sym (out n (get-past rs n e))
     by (Some r) e h = h.means p
 
 -- f of the images is f at the changed point

@@ -1,7 +1,7 @@
 -- The literal of a place is read off that place.
 use Rattle.std.proofs.Common.{◌≡◌, ℕ, ◌+◌, Bool, true, false, not, ◌&&◌, cond, refl, sym, ◌∙◌, ap, subst, arith, List, [], ◌∷◌, slice_get, Some, zero, suc, add-zero}
 use Rattle.std.proofs.lemmas.Bool.{eq-eqb, ne_eqb}
-use Rattle.std.proofs.lemmas.Option.{get_or_from_slice_get, slice_get_within}
+use Rattle.std.proofs.lemmas.Option.{get_or_from_slice_get, slice_get_within, same_Some}
 use Rattle.bdd.specs.Tree.{Point}
 use Rattle.mig_base.specs.Bools.{same_bool}
 use Rattle.mig_base.specs.declared.nets.Var.{Var}
@@ -11,7 +11,7 @@ use Rattle.rails.specs.declared.Side.TheVariants.{Pure, High, Low}
 use Rattle.rails.specs.declared.Rail.{Rail}
 use Rattle.rails.specs.Variables.{rails_from, all_rails, same_var, IsBefore, AreRising}
 use Rattle.rails.specs.Points.{read_off, literal_in, literal_holds, literal_of, high_of, MayStand}
-use Rattle.rails.proofs.RailLemmas.{origin, is_pure, some_injective}
+use Rattle.rails.proofs.RailLemmas.{origin, is_pure}
 
 before_differs : (v w : Var) → IsBefore v w → same_var v w ≡ false
 before_differs (Net n) (Net m) l = ne_eqb n m (λ e. absurd (omega arith))
@@ -19,7 +19,7 @@ before_differs (Net n) (Reg k) l = refl
 before_differs (Reg k) (Net n) l = absurd l
 before_differs (Reg k) (Reg j) l = ne_eqb k j (λ e. absurd (omega arith))
 
-same_self : (v : Var) → same_var v v ≡ true
+pub same_self : (v : Var) → same_var v v ≡ true
 same_self (Net n) = eq-eqb n n refl
 same_self (Reg k) = eq-eqb k k refl
 
@@ -40,7 +40,7 @@ reads : (k : ℕ) (vs : List (Var × Bool)) (n : ℕ) (r : Rail) (plain : Bool) 
 reads k [] n r plain m p h e = cc
 reads k ((v, true) ∷ vs) zero r plain m p h e =
     subst (λ (q : Rail). literal_in m (rails_from k ((v, true) ∷ vs)) (literal_of q plain) p ≡ read_off q.side (high_of q.side plain) (p (m + 0)))
-    (some_injective (record { var = v; variable = k; side = Pure }) r e)
+    (same_Some (record { var = v; variable = k; side = Pure }) r e)
     (ap (λ b. cond (b && true) (same_bool plain (p m)) (literal_in (m + 1) (rails_from (k + 1) vs) (record { var = v; high = plain }) p)) (same_self v)
     ∙ ap (λ j. same_bool plain (p j)) (sym (add-zero m)))
 reads k ((v, true) ∷ vs) (suc n) r plain m p h e =
@@ -49,12 +49,12 @@ reads k ((v, true) ∷ vs) (suc n) r plain m p h e =
     ∙ ap (λ j. read_off r.side (high_of r.side plain) (p j)) (omega arith)
 reads k ((v, false) ∷ vs) zero r plain m p h e =
     subst (λ (q : Rail). literal_in m (rails_from k ((v, false) ∷ vs)) (literal_of q plain) p ≡ read_off q.side (high_of q.side plain) (p (m + 0)))
-    (some_injective (record { var = v; variable = k; side = High }) r e)
+    (same_Some (record { var = v; variable = k; side = High }) r e)
     (ap (λ b. cond (b && true) (p m) (cond (b && false) (p (m + 1)) (literal_in (m + 1 + 1) (rails_from (k + 1) vs) (record { var = v; high = true }) p))) (same_self v)
     ∙ ap p (sym (add-zero m)))
 reads k ((v, false) ∷ vs) (suc zero) r plain m p h e =
     subst (λ (q : Rail). literal_in m (rails_from k ((v, false) ∷ vs)) (literal_of q plain) p ≡ read_off q.side (high_of q.side plain) (p (m + 1)))
-    (some_injective (record { var = v; variable = k; side = Low }) r e)
+    (same_Some (record { var = v; variable = k; side = Low }) r e)
     (ap (λ b. cond (b && false) (p m) (cond (b && true) (p (m + 1)) (literal_in (m + 1 + 1) (rails_from (k + 1) vs) (record { var = v; high = false }) p))) (same_self v))
 reads k ((v, false) ∷ vs) (suc (suc n)) r plain m p h e =
     ap (λ b. cond (b && high_of r.side plain) (p m) (cond (b && not (high_of r.side plain)) (p (m + 1)) (literal_in (m + 1 + 1) (rails_from (k + 1) vs) (literal_of r plain) p)))

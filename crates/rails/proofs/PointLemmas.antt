@@ -1,5 +1,6 @@
 -- The points of levels.
 use Rattle.std.proofs.Common.{◌≡◌, ℕ, Bool, true, false, not, if◌then◌else◌, cond, refl, sym, ◌∙◌, ap, subst, arith, List, [], ◌∷◌, length, slice_get, Option, None, Some, IfSome, zero, suc}
+use Rattle.std.proofs.lemmas.Option.{same_Some}
 use Rattle.mig_base.specs.Levels.{level_at}
 use Rattle.mig_base.specs.declared.levels.Level.{Level}
 use Rattle.mig_base.specs.declared.nets.Var.{Var}
@@ -10,7 +11,7 @@ use Rattle.rails.specs.Variables.{all_rails, same_var}
 use Rattle.rails.specs.Points.{opposite, mirror, mirror_at, put, put_at, side_of, IsKept, IsBelow}
 use Rattle.rails.specs.Steps.{IsPureSide, IsPairedBy}
 use Rattle.rails.specs.Levels.{IsLevel, AreLevels, side_under, rail_under, point_under, level_between, with_level}
-use Rattle.rails.proofs.RailLemmas.{is_pure, Origin, origin, some_injective, all_paired}
+use Rattle.rails.proofs.RailLemmas.{is_pure, Origin, origin, all_paired}
 use Rattle.rails.proofs.Tables.{under_kept, under_high, under_low, under_pure, under_between}
 
 pub levels_length : (vs : List (Var × Bool)) (ls : List Level) → AreLevels vs ls → length ls ≡ length vs
@@ -22,14 +23,14 @@ levels_length (v ∷ vs) (l ∷ ls) h = omega (arith, levels_length vs ls h.1)
 level_at_index : (vs : List (Var × Bool)) (ls : List Level) (j : ℕ) (w : Var × Bool) → AreLevels vs ls → slice_get vs j ≡ Some w → IsLevel w.1 (level_at ls j)
 level_at_index [] ls j w h e = cc
 level_at_index (v ∷ vs) [] j w h e = absurd h
-level_at_index (v ∷ vs) (l ∷ ls) zero w h e = subst (λ (x : Var × Bool). IsLevel x.1 l) (some_injective v w e) h.0
+level_at_index (v ∷ vs) (l ∷ ls) zero w h e = subst (λ (x : Var × Bool). IsLevel x.1 l) (same_Some v w e) h.0
 level_at_index (v ∷ vs) (l ∷ ls) (suc j) w h e = level_at_index vs ls j w h.1 e
 
 with_level_at : (vs : List (Var × Bool)) (ls : List Level) (v : Var) (l : Level) (j : ℕ) (w : Var × Bool) → AreLevels vs ls → slice_get vs j ≡ Some w
     → level_at (with_level vs ls v l) j ≡ (if same_var w.0 v then l else level_at ls j)
 with_level_at [] ls v l j w h e = cc
 with_level_at (u ∷ vs) [] v l j w h e = absurd h
-with_level_at (u ∷ vs) (k ∷ ks) v l zero w h e = ap (λ (x : Var × Bool). if same_var x.0 v then l else k) (some_injective u w e)
+with_level_at (u ∷ vs) (k ∷ ks) v l zero w h e = ap (λ (x : Var × Bool). if same_var x.0 v then l else k) (same_Some u w e)
 with_level_at (u ∷ vs) (k ∷ ks) v l (suc j) w h e = with_level_at vs ks v l j w h.1 e
 
 module _ (vs : List (Var × Bool)) (ls : List Level) (lawful : AreLevels vs ls) where

@@ -1,6 +1,6 @@
 -- The list of the Booleans of some variables.
 use Rattle.std.proofs.Common.{◌≡◌, ℕ, ◌+◌, ◌-◌, ◌*◌, ◌<◌, ◌≤◌, Bool, true, false, refl, sym, ◌∙◌, ap, subst, arith, List, [], ◌∷◌, ◌++◌, length, length-append, append_assoc, slice_get, Option, None, Some, IfSome, zero, suc, append-nil}
-use Rattle.std.proofs.lemmas.Option.{slice_get_within}
+use Rattle.std.proofs.lemmas.Option.{slice_get_within, same_Some}
 use Rattle.mig_base.specs.declared.nets.Var.{Var}
 use Rattle.rails.specs.declared.Side.{Side}
 use Rattle.rails.specs.declared.Side.TheVariants.{Pure, High, Low}
@@ -78,15 +78,12 @@ origin_shift k v vs r h = record { index = suc h.index; number = omega (arith, h
 origin_here : (k : ℕ) (v : Var) (vs : List (Var × Bool)) (s : Side) (r : Rail) → record { var = v; variable = k; side = s } ≡ r → Origin k ((v, is_pure s) ∷ vs) r
 origin_here k v vs s r e = subst (λ q. Origin k ((v, is_pure s) ∷ vs) q) e (record { index = 0; number = omega arith; named = refl })
 
-pub some_injective : {X : Type 0} (x y : X) → Some x ≡ Some y → x ≡ y
-some_injective x y e = cc
-
 pub origin : (k : ℕ) (vs : List (Var × Bool)) (n : ℕ) (r : Rail) → slice_get (rails_from k vs) n ≡ Some r → Origin k vs r
 origin k [] n r e = cc
-origin k ((v, true) ∷ vs) zero r e = origin_here k v vs Pure r (some_injective (record { var = v; variable = k; side = Pure }) r e)
+origin k ((v, true) ∷ vs) zero r e = origin_here k v vs Pure r (same_Some (record { var = v; variable = k; side = Pure }) r e)
 origin k ((v, true) ∷ vs) (suc n) r e = origin_shift k (v, true) vs r (origin (k + 1) vs n r e)
-origin k ((v, false) ∷ vs) zero r e = origin_here k v vs High r (some_injective (record { var = v; variable = k; side = High }) r e)
-origin k ((v, false) ∷ vs) (suc zero) r e = origin_here k v vs Low r (some_injective (record { var = v; variable = k; side = Low }) r e)
+origin k ((v, false) ∷ vs) zero r e = origin_here k v vs High r (same_Some (record { var = v; variable = k; side = High }) r e)
+origin k ((v, false) ∷ vs) (suc zero) r e = origin_here k v vs Low r (same_Some (record { var = v; variable = k; side = Low }) r e)
 origin k ((v, false) ∷ vs) (suc (suc n)) r e = origin_shift k (v, false) vs r (origin (k + 1) vs n r e)
 
 pub all_numbered : (vs : List (Var × Bool)) (n : ℕ) → length vs ≤ n → AreNumbered n (all_rails vs)

@@ -1,5 +1,5 @@
 -- Ranks stay right as nodes get theirs.
-use Rattle.std.proofs.Common.{ℕ, zero, suc, ◌≡◌, ◌⊎◌, ◌≤◌, ◌+◌, ◌-◌, max, true, false, List, [], ◌∷◌, ◌++◌, map, take, length, Option, Some, None, refl, sym, ap, ◌∙◌, subst, arith, inl, inr}
+use Rattle.std.proofs.Common.{ℕ, ◌≡◌, ◌⊎◌, ◌≤◌, ◌+◌, ◌-◌, max, true, false, List, [], ◌∷◌, ◌++◌, map, take, length, Option, Some, None, refl, sym, ap, ◌∙◌, subst, arith, inl, inr}
 use Rattle.std.specs.Prelude.{slice_get, ◌==◌}
 use Rattle.std.specs.List.{AllByRecursion, flat_map}
 use Rattle.std.proofs.lemmas.Bool.{eqb-true}
@@ -20,6 +20,7 @@ use Rattle.mig_base.specs.Reads.{IsNode}
 use Rattle.ranks.specs.Ranking.{AreReady, IsRankOf, IsRanking, IsPassed, IsStuck, undriven, wire_undriven}
 use Rattle.ranks.proofs.Marking.{cases-read, mark-same, mark-other, lengths-marked, waiting-marked, blanks-most, unmarked-none, node-within}
 use Rattle.mig_base.proofs.Amongs.{among-all, node-among}
+use Rattle.mig_base.proofs.ListLaws.{get-past}
 
 same-map : (f g : Read → ℕ) (reads : List Read) → AllByRecursion (λ w. f w ≡ g w) reads → map f reads ≡ map g reads
 same-map f g [] h = refl
@@ -37,11 +38,6 @@ rule-agree c f g (OfRegister k) h = at (slice_get c.registers k) h
     at : (o : Option Register) → AllByRecursion (λ w. f w ≡ g w) (reads_of_register o) → or_zero (register_rank f) o ≡ or_zero (register_rank g) o
     at None h = refl
     at (Some r) h = ap (λ (ns : List ℕ). greatest ns + 1) (same-map f g (row_reads r.reset) h)
-
-get-past : {T : Type 0} (xs : List T) (i : ℕ) → slice_get xs i ≡ None → length xs ≤ i
-get-past [] i e = omega arith
-get-past (x ∷ xs) zero e = cc
-get-past (x ∷ xs) (suc i) e = omega (arith, get-past xs i e)
 
 pub greatest-most : (f : Read → ℕ) (b : ℕ) → ((w : Read) → f w ≤ b) → (reads : List Read) → greatest (map f reads) ≤ b
 greatest-most f b h [] = omega arith

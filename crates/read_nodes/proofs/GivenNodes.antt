@@ -1,9 +1,9 @@
 -- All that the rows of a given board read are its nodes.
-use Rattle.std.proofs.Common.{ℕ, zero, suc, ◌≡◌, ◌<◌, ◌+◌, Bool, true, false, ◌||◌, List, [], ◌∷◌, ◌++◌, map, length, Option, Some, None, Result, Ok, Err, refl, sym, ap, ◌∙◌, subst, inl, inr, arith}
+use Rattle.std.proofs.Common.{ℕ, zero, suc, ◌≡◌, ◌<◌, ◌+◌, Bool, true, false, ◌||◌, List, [], ◌∷◌, ◌++◌, map, length, Option, Some, None, Result, Ok, refl, sym, ap, ◌∙◌, subst, inl, inr, arith}
 use Rattle.std.specs.Prelude.{slice_get, if◌then◌else◌, ◌==◌}
 use Rattle.std.specs.List.{list_any, AllByRecursion}
 use Rattle.std.specs.Option.{option_map}
-use Rattle.std.proofs.lemmas.Bool.{and_parts, eqb-true, eq-eqb}
+use Rattle.std.proofs.lemmas.Bool.{and_parts, eqb-true, eq-eqb, or_right, or_left}
 use Rattle.std.proofs.lemmas.Option.{same_Some}
 use Rattle.mig_base.specs.declared.kinds.Kind.{Kind}
 use Rattle.mig_base.specs.declared.kinds.Mode.{Mode}
@@ -37,19 +37,16 @@ use Rattle.mig_base.specs.Given.{AreMade, IsGiven, IsMade}
 use Rattle.mig_base.specs.Reads.{IsNode, driver_reads, edge_reads, gives_reads}
 use Rattle.mig_base.specs.Values.{product_reads, row_reads, sum_reads}
 use Rattle.mig_base.specs.WellFormed.{chip_columns, fits_control, fits_row, has_enable, has_enable_row, is_always, is_low_pin, is_never, is_simple, FitsCell, IsWellFormed}
-use Rattle.mig_base.proofs.Amongs.{among-all, among-filter, filter-among}
+use Rattle.mig_base.proofs.Amongs.{among-all, among-filter, filter-among, among-get, map-among}
 use Rattle.mig_base.proofs.ListLaws.{all-append}
-use Rattle.made_cells.proofs.MadeCells.{made-well}
+use Rattle.made_cells.proofs.MadeCells.{Told, v8_chip, made-well, counted}
 use Rattle.rebuilt_boards.proofs.BoardForms.{wiring-lines, writable-lines}
 use Rattle.new_board.proofs.Wiring.{LinesFit}
 use Rattle.read_nodes.specs.ReadsNodes.{ReadsNodes}
 use Rattle.read_nodes.proofs.Columns.{enable-ordinary, row-readable}
-use Rattle.read_nodes.proofs.Sources.{IsChip, IsOn, chip_reads, map-among, register-node, source-node, unit-on}
+use Rattle.read_nodes.proofs.Sources.{IsChip, IsOn, chip_reads, register-node, source-node, unit-on}
 
 -- made cells are of their line's kind
-
-abbrev Told : Type 0
-Told = Result ChipCells ChipError
 
 told-kind : (k : Kind) (x c : ChipCells) → (let told : Told = Ok x in told) ≡ Ok c → x.kind ≡ k → c.kind ≡ k
 told-kind k x c e is = let same : x ≡ c = cc in ap (λ (q : ChipCells). q.kind) (sym same) ∙ is
@@ -57,9 +54,6 @@ told-kind k x c e is = let same : x ≡ c = cc in ap (λ (q : ChipCells). q.kind
 unrefused-kind : (k : Kind) (refusal : Option ChipError) (x c : ChipCells) → unless refusal (Ok x) ≡ Ok c → x.kind ≡ k → c.kind ≡ k
 unrefused-kind k None x c e is = told-kind k x c e is
 unrefused-kind k (Some r) x c e is = cc
-
-abbrev v8_chip : Kind → Mode → List Bool → ChipCells
-v8_chip k m bits = record { kind = k; mode = m; cells = map (v8_cell k m bits) (cell_pins k); reset = row.Never; preset = row.Never }
 
 v8-kind : (k : Kind) (bits : List Bool) (c : ChipCells) (s a : Bool) → v8_cells_in k bits (v8_mode s a) ≡ Ok c → c.kind ≡ k
 v8-kind k bits c true false e = unrefused-kind k (v8_refusal k bits Simple) (v8_chip k Simple bits) c e refl
@@ -72,10 +66,6 @@ by-kind : (k : Kind) (bits : List Bool) (c : ChipCells) (of_22 of_v8 : Bool) →
 by-kind k bits c true of_v8 e = told-kind k (cells_22 k bits) c e refl
 by-kind k bits c false true e = v8-kind k bits c (syn k bits) (ac0 k bits) e
 by-kind k bits c false false e = told-kind k (pal_cells k bits) c e refl
-
-counted : (b : Bool) (x : Told) (r : ChipError) (c : ChipCells) → (if b then x else Err r) ≡ Ok c → x ≡ Ok c
-counted true x r c e = e
-counted false x r c e = cc
 
 made-kind : (line : ChipLine) (c : ChipCells) → IsMade line c → c.kind ≡ line.kind
 made-kind line c made = by-kind line.kind made.0 c (is_22 line.kind) (is_v8 line.kind) (counted (has_count line.kind (length made.0)) (cells_by_kind line.kind made.0) (Count (length made.0)) c made.1)
@@ -127,15 +117,8 @@ any-cell p x (y ∷ ys) (inr a) e = at (in_cell p y) (any-cell p x ys a e)
     at true h = refl
     at false h = h
 
-or-first : (a b : Bool) → a ≡ true → (a || b) ≡ true
-or-first a b e = ap (λ (q : Bool). q || b) e
-
-or-second : (a b : Bool) → b ≡ true → (a || b) ≡ true
-or-second true b e = refl
-or-second false b e = e
-
 cell-reads : (c : ChipCells) (cell : Cell) (p : ℕ) → Among cell c.cells → in_cell p cell ≡ true → chip_reads c p ≡ true
-cell-reads c cell p a e = or-first (list_any (in_cell p) c.cells || in_row p c.reset) (in_row p c.preset) (or-first (list_any (in_cell p) c.cells) (in_row p c.reset) (any-cell p cell c.cells a e))
+cell-reads c cell p a e = or_left (list_any (in_cell p) c.cells || in_row p c.reset) (in_row p c.preset) (or_left (list_any (in_cell p) c.cells) (in_row p c.reset) (any-cell p cell c.cells a e))
 
 module _ (net : Net) (chips : List ChipCells) (given : IsGiven net chips) where
   fit : LinesFit net
@@ -162,7 +145,7 @@ module _ (net : Net) (chips : List ChipCells) (given : IsGiven net chips) where
       each [] h within = tt
       each (t ∷ ts) h within =
           all-append (IsNode (circuit net chips)) (product_reads (literals_of net (units_from 0 chips) j t)) (sum_reads (map (literals_of net (units_from 0 chips) j) ts))
-          (lits-nodes j c chip t h.0 (λ x p b e. cell-reads c cell p a (or-second (in_enable p cell.enable) _ (any-term p t cell.terms (within t (inl refl)) (any-lit p x t b e)))))
+          (lits-nodes j c chip t h.0 (λ x p b e. cell-reads c cell p a (or_right (in_enable p cell.enable) _ (any-term p t cell.terms (within t (inl refl)) (any-lit p x t b e)))))
           (each ts h.1 (λ s b. within s (inr b)))
 
   low-nodes : (n : ℕ) → n < length (circuit net chips).nets → AllByRecursion (IsNode (circuit net chips)) (row_reads (low_pin n))
@@ -232,7 +215,7 @@ module _ (net : Net) (chips : List ChipCells) (given : IsGiven net chips) where
       at enable.Never is h = tt
       at (enable.Term lits) is h =
           lits-nodes j c chip lits h
-          (λ x p b e. cell-reads c cell p a (or-first (in_enable p cell.enable) _ (ap (in_enable p) is ∙ any-lit p x lits b e)))
+          (λ x p b e. cell-reads c cell p a (or_left (in_enable p cell.enable) _ (ap (in_enable p) is ∙ any-lit p x lits b e)))
       at (enable.LowPin p) is h =
           low-nodes (net_of net (j, p)) (source-node net chips j c fit chip (Pin p) (ap (is_among (ordinary_pins c.kind)) (sym h) ∙ enable-ordinary c.kind) (λ q e. cc))
 
@@ -279,13 +262,8 @@ module _ (net : Net) (chips : List ChipCells) (given : IsGiven net chips) where
       all-append (IsNode (circuit net chips)) (sum_reads (map (literals_of net units u.chip) u.cell.terms) ++ row_reads (row_on net units u.chip c.preset)) (row_reads (row_on net units u.chip c.reset))
       (all-append (IsNode (circuit net chips)) (sum_reads (map (literals_of net units u.chip) u.cell.terms)) (row_reads (row_on net units u.chip c.preset))
       (terms-nodes u.chip c h.1 u.cell h.0.cell fits.terms)
-      (control-nodes u.chip c h.1 c.preset h.2.preset (λ p e. or-second (list_any (in_cell p) c.cells || in_row p c.reset) (in_row p c.preset) e)))
-      (control-nodes u.chip c h.1 c.reset h.2.reset (λ p e. or-first (list_any (in_cell p) c.cells || in_row p c.reset) (in_row p c.preset) (or-second (list_any (in_cell p) c.cells) (in_row p c.reset) e)))
-
-get-among : {T : Type 0} (xs : List T) (n : ℕ) (x : T) → slice_get xs n ≡ Some x → Among x xs
-get-among [] n x e = cc
-get-among (y ∷ ys) zero x e = inl (let same : x ≡ y = cc in same)
-get-among (y ∷ ys) (suc n) x e = inr (get-among ys n x e)
+      (control-nodes u.chip c h.1 c.preset h.2.preset (λ p e. or_right (list_any (in_cell p) c.cells || in_row p c.reset) (in_row p c.preset) e)))
+      (control-nodes u.chip c h.1 c.reset h.2.reset (λ p e. or_left (list_any (in_cell p) c.cells || in_row p c.reset) (in_row p c.preset) (or_right (list_any (in_cell p) c.cells) (in_row p c.reset) e)))
 
 get-mapped : {T S : Type 0} (f : T → S) (xs : List T) (n : ℕ) → slice_get (map f xs) n ≡ option_map f (slice_get xs n)
 get-mapped f [] n = refl
@@ -301,7 +279,7 @@ given-nodes net chips given = record { units = units; registers = registers }
       where
         at : (o : Option ChipUnit) → slice_get (units_from 0 chips) u ≡ o → AllByRecursion (IsNode (circuit net chips)) (driver_reads (option_map (driver_of net (units_from 0 chips)) o))
         at None e = tt
-        at (Some x) e = driver-nodes net chips given x (get-among (units_from 0 chips) u x e)
+        at (Some x) e = driver-nodes net chips given x (among-get (units_from 0 chips) u x e)
 
     registers : (k : ℕ) (r : Register) → slice_get (map (register_of net (units_from 0 chips)) (registers_of (units_from 0 chips))) k ≡ Some r → AllByRecursion (IsNode (circuit net chips)) (edge_reads r)
     registers k r e = at (slice_get (registers_of (units_from 0 chips)) k) refl (sym (get-mapped (register_of net (units_from 0 chips)) (registers_of (units_from 0 chips)) k) ∙ e)
@@ -311,4 +289,4 @@ given-nodes net chips given = record { units = units; registers = registers }
         at (Some x) g h =
             let same : register_of net (units_from 0 chips) x ≡ r = same_Some _ r h in
             subst (λ (q : Register). AllByRecursion (IsNode (circuit net chips)) (edge_reads q)) same
-            (register-nodes net chips given x (among-filter is_registered x (units_from 0 chips) (get-among (registers_of (units_from 0 chips)) k x g)).1)
+            (register-nodes net chips given x (among-filter is_registered x (units_from 0 chips) (among-get (registers_of (units_from 0 chips)) k x g)).1)

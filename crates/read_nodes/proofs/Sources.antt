@@ -18,15 +18,10 @@ use Rattle.mig_base.specs.Reads.{IsNode}
 use Rattle.mig_base.specs.WellFormed.{is_never, is_reg, registers_in}
 use Rattle.mig_base.specs.declared.cells.Form.{Form}
 use Rattle.mig_base.specs.declared.cells.Form.TheVariants as form
-use Rattle.mig_base.proofs.Amongs.{among-filter, among-left, among-map, among-right, among-split, filter-among}
+use Rattle.mig_base.proofs.Amongs.{among-filter, among-left, among-map, among-right, among-split, filter-among, map-among}
 use Rattle.rebuilt_boards.proofs.Ranges.{net-within}
 use Rattle.new_board.proofs.Wiring.{LinesFit, place-get}
 use Rattle.read_nodes.proofs.Columns.{IsReadable, pin-among}
-
-pub map-among : {T S : Type 0} (f : T → S) (x : T) (xs : List T) → Among x xs → Among (f x) (map f xs)
-map-among f x [] a = absurd a
-map-among f x (y ∷ ys) (inl e) = inl (ap f e)
-map-among f x (y ∷ ys) (inr a) = inr (map-among f x ys a)
 
 -- a cell of the chip of this number
 abbrev pub unit_of_cell : ℕ → ChipCells → Cell → ChipUnit

@@ -1,15 +1,14 @@
 -- At settled levels each alias net has the level of its register or the complement, and no register shows Z.
-use Rattle.std.proofs.Common.{ℕ, zero, suc, ◌≡◌, Bool, true, false, not, cond, List, [], ◌∷◌, map, Option, Some, None, refl, sym, ap, ◌∙◌, subst}
+use Rattle.std.proofs.Common.{ℕ, zero, suc, ◌≡◌, Bool, true, false, not, cond, List, [], ◌∷◌, map, Some, refl, sym, ap, ◌∙◌, subst}
 use Rattle.std.specs.List.{slice_get}
-use Rattle.std.proofs.lemmas.Option.{same_Some}
 use Rattle.mig_base.specs.declared.levels.Level.{Level}
 use Rattle.mig_base.specs.declared.levels.Level.TheVariants.{Zero, One, Z, X}
 use Rattle.mig_base.specs.declared.nets.Pull.{Pull}
 use Rattle.mig_base.specs.declared.circuit.Read.TheVariants.{OfNet, OfRegister}
 use Rattle.mig_base.specs.declared.circuit.Gate.{Gate}
-use Rattle.mig_base.specs.declared.circuit.Gate.TheVariants.{Never, Product}
+use Rattle.mig_base.specs.declared.circuit.Gate.TheVariants.{Product}
 use Rattle.mig_base.specs.declared.circuit.Gives.{Gives}
-use Rattle.mig_base.specs.declared.circuit.Gives.TheVariants.{Sum, Visible}
+use Rattle.mig_base.specs.declared.circuit.Gives.TheVariants.{Visible}
 use Rattle.mig_base.specs.declared.circuit.Driver.{Driver}
 use Rattle.mig_base.specs.declared.circuit.Register.{Register}
 use Rattle.mig_base.specs.declared.circuit.NetKind.{NetKind}
@@ -21,7 +20,8 @@ use Rattle.mig_base.specs.Levels.{read_level, not3, and3, level_at, or_x}
 use Rattle.mig_base.specs.Resolve.{resolved}
 use Rattle.mig_base.specs.Values.{source_level, literal_value, inverted, row_value}
 use Rattle.mig_base.specs.Accepted.{is_fixed}
-use Rattle.mig_base.specs.Structure.{is_shared, alias_by, alias_unit, alias_only, alias_wire, alias_of}
+use Rattle.mig_base.specs.Structure.{is_shared, alias_of}
+use Rattle.mig_base.proofs.Aliases.{alias-is, inner}
 use Rattle.level_laws.specs.Settled.{IsSettled, gives_level, gated, drive_level, wire_level, level_by, visible_levels}
 use Rattle.level_laws.proofs.Unique.{level_at-map}
 use Rattle.new_board.proofs.Variables.{AliasesFit}
@@ -61,54 +61,6 @@ alias-level false pull One e = refl
 alias-level false pull X e = refl
 alias-level false pull Z e = cc
 
--- the driver of an alias net
-pub record IsAliasDriver (d : Driver) (a : ℕ × Bool) : Type 0 where
-  pub enable : d.enable ≡ Product []
-  pub gives : d.gives ≡ Visible a.0
-  pub level : a.1 ≡ not d.low
-
-alias-driver : (d : Driver) (a : ℕ × Bool) → alias_by d.enable d.gives d.low ≡ Some a → IsAliasDriver d a
-alias-driver d a e = at d.enable d.gives refl refl e
-  where
-    at : (g : Gate) (v : Gives) → d.enable ≡ g → d.gives ≡ v → alias_by g v d.low ≡ Some a → IsAliasDriver d a
-    at Never v eg ev e = cc
-    at (Product []) (Sum terms) eg ev e = cc
-    at (Product []) (Visible k) eg ev e =
-        let same : (k, not d.low) ≡ a = same_Some (k, not d.low) a e in
-        record { enable = eg; gives = ev ∙ ap (λ (q : ℕ × Bool). Visible q.0) same; level = sym (ap (λ (q : ℕ × Bool). q.1) same) }
-    at (Product (x ∷ xs)) v eg ev e = cc
-
--- an alias net: it is not shared, and has one driver
-pub record IsAlias (c : Circuit) (n : ℕ) (a : ℕ × Bool) : Type 0 where
-  pub wire : Wire
-  pub unit : ℕ
-  pub driver : Driver
-  pub found : slice_get c.nets n ≡ Some wire
-  pub private : is_shared wire.kind ≡ false
-  pub only : wire.drivers ≡ unit ∷ []
-  pub unit_is : slice_get c.units unit ≡ Some driver
-  pub alias : IsAliasDriver driver a
-
-pub alias-is : (c : Circuit) (n : ℕ) (a : ℕ × Bool) → alias_of c n ≡ Some a → IsAlias c n a
-alias-is c n a e = at (slice_get c.nets n) refl e
-  where
-    unit : (w : Wire) (u : ℕ) → slice_get c.nets n ≡ Some w → is_shared w.kind ≡ false → w.drivers ≡ u ∷ [] → (o : Option Driver) → slice_get c.units u ≡ o → alias_unit o ≡ Some a → IsAlias c n a
-    unit w u is no_share only None eu e = cc
-    unit w u is no_share only (Some d) eu e = record { wire = w; unit = u; driver = d; found = is; private = no_share; only = only; unit_is = eu; alias = alias-driver d a e }
-
-    drivers : (w : Wire) → slice_get c.nets n ≡ Some w → is_shared w.kind ≡ false → (ds : List ℕ) → w.drivers ≡ ds → alias_only c ds ≡ Some a → IsAlias c n a
-    drivers w is no_share [] only e = cc
-    drivers w is no_share (u ∷ []) only e = unit w u is no_share only (slice_get c.units u) refl e
-    drivers w is no_share (u ∷ v ∷ ds) only e = cc
-
-    by : (w : Wire) → slice_get c.nets n ≡ Some w → (q : Bool) → is_shared w.kind ≡ q → cond q None (alias_only c w.drivers) ≡ Some a → IsAlias c n a
-    by w is true share e = cc
-    by w is false share e = drivers w is share w.drivers refl e
-
-    at : (o : Option Wire) → slice_get c.nets n ≡ o → alias_wire c o ≡ Some a → IsAlias c n a
-    at None is e = cc
-    at (Some w) is e = by w is (is_shared w.kind) refl e
-
 pub aliases-fit : (c : Circuit) (stored inputs : List Level) (l : Levels) → FixedFit c → IsSettled c stored inputs l → AliasesFit c l
 aliases-fit c stored inputs l fixed sl = record { level = level; driven = driven }
   where
@@ -117,13 +69,6 @@ aliases-fit c stored inputs l fixed sl = record { level = level; driven = driven
 
     driven : (k : ℕ) → not3 (not3 (level_at l.visible k)) ≡ level_at l.visible k
     driven k = driven_at k
-
-    inner : (k : NetKind) → is_shared k ≡ false → (is_fixed k ≡ true → ⊥) → k ≡ Inner
-    inner Ground s f = absurd (f refl)
-    inner Power s f = absurd (f refl)
-    inner (Handed j) s f = absurd (f refl)
-    inner (Shared j) s f = cc
-    inner Inner s f = refl
 
     level : (n : ℕ) (a : ℕ × Bool) → alias_of c n ≡ Some a → source_level l (OfNet n) ≡ literal_value l (record { source = OfRegister a.0; high = a.1 })
     level n a e =

@@ -23,14 +23,16 @@ use Rattle.mig_base.specs.Cells.{enable_of, idle, pal_cell, pal_cells}
 use Rattle.mig_base.specs.Structure.{variable_gate, variable_product}
 use Rattle.mig_base.specs.Boards.{At, ChipUnit, literals_of, units_from, circuit_on}
 use Rattle.mig_base.specs.WellFormed.{rises_in, is_always, has_enable, most_terms, has_enable_row, fits_row, fits_control, registers_in, chip_columns, is_registered, FitsCell, IsWellFormed}
+use Rattle.mig_base.proofs.Amongs.{among-get, map-among, among-map, among-all, all-among}
 use Rattle.made_cells.proofs.MadeCells.{pal-well}
+use Rattle.made_cells.proofs.CellsFit.{map-pins}
 use Rattle.new_board.specs.NewChip.{OldBoard, NewChip, unit_on, first_registered, placed_register, register_on}
 use Rattle.new_board.specs.declared.types.PlacedUnit.{PlacedUnit}
 use Rattle.new_board.specs.NewFiles.{registered_pins, new_columns, new_product, new_terms, new_enable, new_row, cell_of, new_cell, new_cells, reset_gate, preset_gate, fitted}
 use Rattle.new_board.specs.OneForOne.{terms_over, same_chips}
 use Rattle.rebuilt_boards.specs.RebuiltBoards.{built_chips}
 use Rattle.new_board.specs.declared.types.FittedChip.{FittedChip}
-use Rattle.new_board.proofs.Items.{among-get, get-among, among-map, among-unmap, all-of, of-all}
+use Rattle.new_board.proofs.Items.{get-among}
 use Rattle.rebuilt_boards.proofs.RebuiltCircuit.{board_of, chip_at, chip-at}
 use Rattle.new_board.proofs.NewWiring.{cell-pin}
 use Rattle.new_board.proofs.Columns.{IsReadable}
@@ -43,7 +45,8 @@ use Rattle.rebuilt_boards.proofs.PalBoards.{IsPalBoard, comb-new_cell, reg-new_c
 use Rattle.rebuilt_boards.proofs.PalFollows.{board-comb}
 use Rattle.rebuilt_boards.proofs.PalPins.{first-old}
 use Rattle.new_board.proofs.BuiltRows.{new-fits, new-enable}
-use Rattle.rebuilt_boards.proofs.BuiltColumns.{pal-wide, ColumnsFit, columns-fit, columns-alike, cells-registered}
+use Rattle.new_board.proofs.WellMade.{columns-alike}
+use Rattle.rebuilt_boards.proofs.BuiltColumns.{pal-wide, ColumnsFit, columns-fit, cells-registered}
 
 -- the cells of the old chip
 
@@ -53,8 +56,8 @@ pal-fits net chips u p =
     let k = p.line.kind in
     let bits = p.chip.bits in
     let pal = and_parts (is_pal k) (eqb (pins_of k) 20) p.chip.pal in
-    all-of (FitsCell k Fixed (chip_columns (pal_cells k bits))) u.cell (map (pal_cell k bits) (cell_pins k)) (pal-well k pal.0 bits).cells
-    (subst (λ (c : Cell). Among c (map (pal_cell k bits) (cell_pins k))) (sym p.cell_is) (among-map (pal_cell k bits) u.cell.pin (cell_pins k) p.pin))
+    among-all (FitsCell k Fixed (chip_columns (pal_cells k bits))) u.cell (map (pal_cell k bits) (cell_pins k)) (pal-well k pal.0 bits).cells
+    (subst (λ (c : Cell). Among c (map (pal_cell k bits) (cell_pins k))) (sym p.cell_is) (map-among (pal_cell k bits) u.cell.pin (cell_pins k) p.pin))
 
 row-short : (columns lits : List Lit) → length columns ≡ 32 → fits_row columns lits ≡ true → length lits < 32
 row-short columns lits wide h =
@@ -72,7 +75,7 @@ short-terms : (net : Net) (chips : List ChipCells) (u : ChipUnit) → IsPalUnit 
 short-terms net chips u p = record {
   each = λ t a.
       let columns = chip_columns (pal_cells p.line.kind p.chip.bits) in
-      row-short columns t (pal-columns_wide net chips u p) (all-of (λ (term : List Lit). IsTrue (fits_row columns term)) t u.cell.terms (pal-fits net chips u p).terms a);
+      row-short columns t (pal-columns_wide net chips u p) (among-all (λ (term : List Lit). IsTrue (fits_row columns term)) t u.cell.terms (pal-fits net chips u p).terms a);
 }
 
 few-terms : (net : Net) (chips : List ChipCells) (u : ChipUnit) (p : IsPalUnit net chips u) → length u.cell.terms ≤ most_terms p.line.kind Fixed u.cell.pin u.cell.form
@@ -129,10 +132,10 @@ terms-fit : (net : Net) (chips : List ChipCells) (chip : NewChip) (u : ChipUnit)
     (new_terms (board_of net (units_from 0 chips)) chip (terms_over (circuit_on net (units_from 0 chips)) (old_terms (board_of net (units_from 0 chips)) u)))
 terms-fit net chips chip u columns short =
     let b = board_of net (units_from 0 chips) in
-    of-all (λ (term : List Lit). IsTrue (fits_row (new_columns b chip) term)) (new_terms b chip (terms_over b.circuit (old_terms b u))) (λ t a.
-    let over = among-unmap (new_product b chip) t (map (variable_product b.circuit) (old_terms b u)) a in
-    let old = among-unmap (variable_product b.circuit) over.0 (old_terms b u) over.1 in
-    let lits = among-unmap (literals_of net (units_from 0 chips) u.chip) old.0 u.cell.terms old.1 in
+    all-among (λ (term : List Lit). IsTrue (fits_row (new_columns b chip) term)) (new_terms b chip (terms_over b.circuit (old_terms b u))) (λ t a.
+    let over = among-map (new_product b chip) t (map (variable_product b.circuit) (old_terms b u)) a in
+    let old = among-map (variable_product b.circuit) over.0 (old_terms b u) over.1 in
+    let lits = among-map (literals_of net (units_from 0 chips) u.chip) old.0 u.cell.terms old.1 in
     let long : length old.0 ≡ length lits.0 = ap (λ (ls : List Literal). length ls) lits.2 ∙ length-map lits.0 _ in
     let few = short.each lits.0 lits.1 in
     subst (λ (ls : List Lit). IsTrue (fits_row (new_columns b chip) ls)) (sym (over.2 ∙ ap (new_product b chip) old.2)) (short-row b chip old.0 columns (omega arith)))
@@ -217,10 +220,6 @@ pin-fits net chips j name mode units pin board columns found = at (unit_on units
         subst (λ (k : ℕ). FitsCell Gal16V8 mode (new_columns b chip) (new_cell b chip k)) (ap (λ (q : At). q.1) r.place)
         (unit x u r.found same on (unit-cases net chips u board.pals (among-get (units_from 0 chips) x.unit u r.found)))
 
-map-pins : (f : ℕ → Cell) (pins : List ℕ) → ((pin : ℕ) → (f pin).pin ≡ pin) → map (λ (cell : Cell). cell.pin) (map f pins) ≡ pins
-map-pins f [] h = refl
-map-pins f (p ∷ ps) h = ap (λ (q : ℕ). q ∷ map (λ (cell : Cell). cell.pin) (map f ps)) (h p) ∙ ap (λ (rest : List ℕ). p ∷ rest) (map-pins f ps h)
-
 -- PAL16 chips neither reset nor preset their registers
 no-reset : (net : Net) (chips : List ChipCells) (j : ℕ) (chip : NewChip) → IsPalBoard net chips → slice_get (same_chips net chips) j ≡ Some chip → reset_gate (first_registered (circuit_on net (units_from 0 chips)) chip) ≡ Never
 no-reset net chips j chip board found = at (first_registered (circuit_on net (units_from 0 chips)) chip) refl
@@ -246,8 +245,8 @@ chip-well : (net : Net) (chips : List ChipCells) (j : ℕ) (name : List ℕ) (mo
 chip-well net chips j name mode units board found = record {
   mode = columns.mode;
   pins = map-pins (new_cell b chip) (cell_pins Gal16V8) (cell-pin b chip);
-  cells = subst (λ (cs : List Lit). AllByRecursion (FitsCell Gal16V8 mode cs) cells.cells) (sym alike) (of-all (FitsCell Gal16V8 mode (new_columns b chip)) cells.cells (λ cell a.
-      let pin = among-unmap (new_cell b chip) cell (cell_pins Gal16V8) a in
+  cells = subst (λ (cs : List Lit). AllByRecursion (FitsCell Gal16V8 mode cs) cells.cells) (sym alike) (all-among (FitsCell Gal16V8 mode (new_columns b chip)) cells.cells (λ cell a.
+      let pin = among-map (new_cell b chip) cell (cell_pins Gal16V8) a in
       subst (FitsCell Gal16V8 mode (new_columns b chip)) (sym pin.2) (pin-fits net chips j name mode units pin.0 board columns found)));
   reset = ap (λ (g : Gate). fits_control Gal16V8 (chip_columns cells) (new_row b chip g)) (no-reset net chips j chip board found);
   preset = ap (λ (g : Gate). fits_control Gal16V8 (chip_columns cells) (new_row b chip g)) (no-preset net chips j chip board found);
@@ -276,9 +275,9 @@ is-gal net chips j chip board found =
 
 -- the cells of all new chips are well formed
 pub board-well : (net : Net) (chips : List ChipCells) → IsPalBoard net chips → AllByRecursion (λ (f : FittedChip). IsWellFormed f.cells) (built_chips net chips)
-board-well net chips board = of-all (λ (f : FittedChip). IsWellFormed f.cells) (built_chips net chips) (λ f a.
+board-well net chips board = all-among (λ (f : FittedChip). IsWellFormed f.cells) (built_chips net chips) (λ f a.
     let b = board_of net (units_from 0 chips) in
-    let chip = among-unmap (fitted b) f (same_chips net chips) a in
+    let chip = among-map (fitted b) f (same_chips net chips) a in
     let place = get-among chip.0 (same_chips net chips) chip.1 in
     let is = is-gal net chips place.0 chip.0 board place.1 in
     subst (λ (g : FittedChip). IsWellFormed g.cells) (sym chip.2)
@@ -287,8 +286,8 @@ board-well net chips board = of-all (λ (f : FittedChip). IsWellFormed f.cells) 
 
 -- each is a GAL16V8
 pub board-kinds : (net : Net) (chips : List ChipCells) → IsPalBoard net chips → AllByRecursion (λ (f : FittedChip). f.cells.kind ≡ Gal16V8) (built_chips net chips)
-board-kinds net chips board = of-all (λ (f : FittedChip). f.cells.kind ≡ Gal16V8) (built_chips net chips) (λ f a.
+board-kinds net chips board = all-among (λ (f : FittedChip). f.cells.kind ≡ Gal16V8) (built_chips net chips) (λ f a.
     let b = board_of net (units_from 0 chips) in
-    let chip = among-unmap (fitted b) f (same_chips net chips) a in
+    let chip = among-map (fitted b) f (same_chips net chips) a in
     let place = get-among chip.0 (same_chips net chips) chip.1 in
     ap (λ (g : FittedChip). g.cells.kind) chip.2 ∙ (columns-fit net chips place.0 chip.0 board place.1).kind)

@@ -1,5 +1,5 @@
 -- The columns of the chips that are built for PAL16 chips.
-use Rattle.std.proofs.Common.{ℕ, ◌≡◌, Bool, true, false, not, cond, List, [], ◌∷◌, map, length, Option, Some, None, is_some, refl, sym, ap, ◌∙◌, subst, eqb, eqb-true, eq-eqb}
+use Rattle.std.proofs.Common.{ℕ, ◌≡◌, Bool, true, false, not, cond, List, map, length, Option, Some, None, is_some, refl, sym, ap, ◌∙◌, subst, eqb, eqb-true, eq-eqb}
 use Rattle.std.specs.Prelude.{option_and_then}
 use Rattle.std.specs.List.{slice_get, filter}
 use Rattle.mig_base.specs.declared.kinds.Kind.{Kind}
@@ -14,19 +14,21 @@ use Rattle.mig_base.specs.declared.nets.Net.{Net}
 use Rattle.mig_base.specs.declared.nets.ChipLine.{ChipLine}
 use Rattle.mig_base.specs.Among.{Among}
 use Rattle.mig_base.specs.DeviceTables.{is_pal16, cell_pins, pal_registers}
-use Rattle.mig_base.specs.Cells.{is_among, lit_of, pair_columns, columns_of}
+use Rattle.mig_base.specs.Cells.{is_among, columns_of}
 use Rattle.mig_base.specs.Boards.{At, units_from, circuit_on}
 use Rattle.mig_base.specs.WellFormed.{is_reg, is_simple, is_registered, same_lit, has_mode, registers_in}
 use Rattle.mig_base.specs.WrittenBoard.{are_distinct}
+use Rattle.mig_base.proofs.Amongs.{among-get, map-among, among-map, any-among, among-any}
+use Rattle.mig_base.proofs.ListLaws.{both-ways}
 use Rattle.new_board.specs.NewChip.{OldBoard, NewChip, unit_on, placed_register, register_on}
 use Rattle.new_board.specs.declared.types.PlacedUnit.{PlacedUnit}
 use Rattle.new_board.specs.NewFiles.{registered_pins, new_columns, cell_of, new_cell}
 use Rattle.new_board.specs.OneForOne.{gal_mode, same_chip, same_chips}
-use Rattle.new_board.proofs.Items.{among-get, among-filter, among-unfilter, among-map, among-unmap, any-among, among-any}
-use Rattle.new_board.proofs.Products.{both-ways}
+use Rattle.new_board.proofs.Items.{among-filter, among-unfilter}
 use Rattle.new_board.proofs.Columns.{RegistersFit}
 use Rattle.rebuilt_boards.proofs.RebuiltCircuit.{board_of, chip_at, chip-at}
 use Rattle.new_board.proofs.NewWiring.{cell-pin}
+use Rattle.new_board.proofs.WellMade.{columns-alike}
 use Rattle.rebuilt_boards.proofs.PalCells.{pal16-table}
 use Rattle.rebuilt_boards.proofs.PalUnits.{pal-unit, unit-from, new-same}
 use Rattle.rebuilt_boards.proofs.RegisterUnits.{registered-unit, on-register, registers-fit}
@@ -55,16 +57,6 @@ pal-wide k registers e = (column-table k Fixed e).wide registers
 
 abbrev lit_by : Bool → Bool → ℕ → Bool → Lit
 lit_by even_q registered pin even = cond registered (record { source = Reg pin; high = cond even_q even (not even) }) (record { source = Pin pin; high = even })
-
--- the columns depend on which pins are registered alone
-pub columns-alike : (k : Kind) (mode : Mode) (rs ss : List ℕ) → ((pin : ℕ) → is_among rs pin ≡ is_among ss pin) → columns_of k mode rs ≡ columns_of k mode ss
-columns-alike k mode rs ss h = pairs _ _
-  where
-    pairs : (even_q : Bool) (pins : List ℕ) → pair_columns even_q rs pins ≡ pair_columns even_q ss pins
-    pairs even_q [] = refl
-    pairs even_q (p ∷ ps) =
-        ap (λ (q : Bool). lit_by even_q q p true ∷ lit_by even_q q p false ∷ pair_columns even_q rs ps) (h p)
-        ∙ ap (λ (rest : List Lit). lit_of even_q ss p true ∷ lit_of even_q ss p false ∷ rest) (pairs even_q ps)
 
 -- the registers of a new chip are on the registered pins of the old one
 register-same : (net : Net) (chips : List ChipCells) (j pin : ℕ) (line : ChipLine) (cells : ChipCells) → IsChip net chips j line cells →
@@ -154,9 +146,9 @@ cells-registered net chips j chip board found pin =
     there : is_among (registers_in cells) pin ≡ true → is_some (register_on b.circuit chip pin) ≡ true
     there e =
         let p = any-among (λ p. eqb p pin) (registers_in cells) e in
-        let cell = among-unmap (λ (c : Cell). c.pin) p.0 (filter (λ (c : Cell). is_reg c.form) cells) p.1 in
+        let cell = among-map (λ (c : Cell). c.pin) p.0 (filter (λ (c : Cell). is_reg c.form) cells) p.1 in
         let kept = among-unfilter (λ (c : Cell). is_reg c.form) cell.0 cells cell.1 in
-        let q = among-unmap (new_cell b chip) cell.0 (cell_pins Gal16V8) kept.0 in
+        let q = among-map (new_cell b chip) cell.0 (cell_pins Gal16V8) kept.0 in
         let same : q.0 ≡ pin = sym (cell-pin b chip q.0) ∙ sym (ap (λ (c : Cell). c.pin) q.2) ∙ sym cell.2 ∙ eqb-true p.0 pin p.2 in
         ap (λ (k : ℕ). is_some (register_on b.circuit chip k)) (sym same) ∙ sym (cell-registered net chips j q.0 chip board found) ∙ sym (ap (λ (c : Cell). is_reg c.form) q.2) ∙ kept.1
 
@@ -171,6 +163,6 @@ cells-registered net chips j chip board found pin =
             let its : Among pin (cell_pins Gal16V8) =
             subst (λ (q : ℕ). Among q (cell_pins Gal16V8)) (ap (λ (q : At). q.1) r.place) (subst (Among r.unit.cell.pin) (sym (pal16-table p.line.kind p.chip.pal).cells) p.pin) in
             among-any (λ p. eqb p pin) (new_cell b chip pin).pin (registers_in cells)
-            (among-map (λ (c : Cell). c.pin) (new_cell b chip pin) (filter (λ (c : Cell). is_reg c.form) cells)
-            (among-filter (λ (c : Cell). is_reg c.form) (new_cell b chip pin) cells (among-map (new_cell b chip) pin (cell_pins Gal16V8) its) (cell-registered net chips j pin chip board found ∙ e)))
+            (map-among (λ (c : Cell). c.pin) (new_cell b chip pin) (filter (λ (c : Cell). is_reg c.form) cells)
+            (among-filter (λ (c : Cell). is_reg c.form) (new_cell b chip pin) cells (map-among (new_cell b chip) pin (cell_pins Gal16V8) its) (cell-registered net chips j pin chip board found ∙ e)))
             (eq-eqb (new_cell b chip pin).pin pin (cell-pin b chip pin))

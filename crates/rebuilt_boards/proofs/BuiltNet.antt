@@ -2,7 +2,7 @@
 use Rattle.std.proofs.Common.{ℕ, ◌≡◌, ◌+◌, ◌<◌, Bool, true, false, not, cond, ◌&&◌, List, [], ◌∷◌, ◌++◌, map, length, Option, Some, None, refl, sym, ap, ◌∙◌, subst, inl, inr, ◌⊎◌, ltb, lt-ltb, ltb-true, arith, IsTrue}
 use Rattle.std.specs.List.{filter_map, list_all, cons_option}
 use Rattle.std.specs.Str.{bytes_eq}
-use Rattle.std.proofs.lemmas.List.{length-map}
+use Rattle.std.proofs.lemmas.List.{length-map, map-append}
 use Rattle.std.proofs.lemmas.Option.{same_Some}
 use Rattle.mig_base.specs.declared.nets.Net.{Net}
 use Rattle.mig_base.specs.declared.nets.NetLine.{NetLine}
@@ -16,6 +16,7 @@ use Rattle.mig_base.specs.DeviceTables.{ordinary_pins}
 use Rattle.mig_base.specs.Boards.{units_from}
 use Rattle.mig_base.specs.WrittenBoard.{are_distinct, is_part, is_pulled, Place, same_place, place_of, board_places, IsWritable}
 use Rattle.mig_base.proofs.Distinct.{same-refl, part-more, places-equal}
+use Rattle.mig_base.proofs.Amongs.{among-split, among-map, pass-all}
 use Rattle.new_board.specs.NewChip.{OldBoard, NewChip, private_from}
 use Rattle.new_board.specs.InputPins.{pin_net}
 use Rattle.new_board.specs.NewFiles.{fitted, new_number, new_chip_line, new_pins_from, new_wires, wire_at}
@@ -23,7 +24,7 @@ use Rattle.new_board.specs.OneForOne.{same_chips_from, same_chips}
 use Rattle.rebuilt_boards.specs.RebuiltBoards.{built_chips, built_net}
 use Rattle.new_board.specs.declared.types.FittedChip.{FittedChip}
 use Rattle.new_board.specs.declared.types.PinNet.{PinNet}
-use Rattle.new_board.proofs.Items.{get-among, among-append, among-unmap, among-unfilter_map, pass-all}
+use Rattle.new_board.proofs.Items.{get-among, among-unfilter_map}
 use Rattle.rebuilt_boards.proofs.RebuiltCircuit.{board_of}
 use Rattle.new_board.proofs.NewWiring.{rebuilt_net, kept_of}
 use Rattle.new_board.proofs.KeptNumbers.{kept-numbers}
@@ -101,10 +102,6 @@ pins-part b j net_at (p ∷ ps) = at (net_at p) (pins-part b j net_at ps)
     at None h = part-more same_place (places rest) (j, p) (map (λ p. (j, p)) ps) h
     at (Some n) h = wired n (ltb n (private_from b.net)) h
 
-map-append : {A B : Type 0} (f : A → B) (xs ys : List A) → map f (xs ++ ys) ≡ map f xs ++ map f ys
-map-append f [] ys = refl
-map-append f (x ∷ xs) ys = ap (λ rest. f x ∷ rest) (map-append f xs ys)
-
 chips-part : (b : OldBoard) (kept : List ℕ) (j : ℕ) (news : List NewChip) →
     is_part same_place (map place_of (new_pins_from kept j (map (fitted b) news))) (board_places j (map new_chip_line (map (fitted b) news))) ≡ true
 chips-part b kept j [] = refl
@@ -131,13 +128,13 @@ wire-is b pin (Some n) w e = at (ltb n (private_from b.net)) refl e
 among-pins : (kept : List ℕ) (j : ℕ) (fs : List FittedChip) (l : PinLine) → Among l (new_pins_from kept j fs) → (f : FittedChip) × Among f fs × ((w : PinNet) × Among w f.wires × (l.net ≡ new_number kept w.net))
 among-pins kept j [] l a = absurd a
 among-pins kept j (f ∷ fs) l a =
-    at (among-append l (map (λ (w : PinNet). record { chip = j; pin = w.pin; net = new_number kept w.net }) f.wires) (new_pins_from kept (j + 1) fs) a) (among-pins kept (j + 1) fs l)
+    at (among-split l (map (λ (w : PinNet). record { chip = j; pin = w.pin; net = new_number kept w.net }) f.wires) (new_pins_from kept (j + 1) fs) a) (among-pins kept (j + 1) fs l)
   where
     at : Among l (map (λ (w : PinNet). record { chip = j; pin = w.pin; net = new_number kept w.net }) f.wires) ⊎ Among l (new_pins_from kept (j + 1) fs) →
         (Among l (new_pins_from kept (j + 1) fs) → (g : FittedChip) × Among g fs × ((w : PinNet) × Among w g.wires × (l.net ≡ new_number kept w.net))) →
         (g : FittedChip) × Among g (f ∷ fs) × ((w : PinNet) × Among w g.wires × (l.net ≡ new_number kept w.net))
     at (inl h) rest =
-        let w = among-unmap (λ (w : PinNet). record { chip = j; pin = w.pin; net = new_number kept w.net }) l f.wires h in
+        let w = among-map (λ (w : PinNet). record { chip = j; pin = w.pin; net = new_number kept w.net }) l f.wires h in
         (f, inl refl, (w.0, w.1, ap (λ (l : PinLine). l.net) w.2))
     at (inr h) rest = let r = rest h in (r.0, inr r.1, r.2)
 
@@ -146,7 +143,7 @@ line-below net chips board l a =
     let b = board_of net (units_from 0 chips) in
     let news = same_chips net chips in
     let at = among-pins (kept_of b news) 0 (map (fitted b) news) l a in
-    let chip = among-unmap (fitted b) at.0 news at.1 in
+    let chip = among-map (fitted b) at.0 news at.1 in
     let place = get-among chip.0 news chip.1 in
     let w = at.2 in
     let wire : Among w.0 (new_wires b chip.0) = subst (λ (f : FittedChip). Among w.0 f.wires) chip.2 w.1 in

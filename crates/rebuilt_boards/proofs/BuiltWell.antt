@@ -16,12 +16,13 @@ use Rattle.mig_base.specs.Names.{is_name}
 use Rattle.mig_base.specs.DeviceTables.{cell_pins}
 use Rattle.mig_base.specs.Cells.{pal_cell}
 use Rattle.mig_base.specs.Boards.{ChipUnit, is_unit, units_from}
-use Rattle.mig_base.specs.WrittenBoard.{IsWritable}
-use Rattle.new_board.specs.OneForOne.{same_chips, chip_named_at, place_line, plan_chip, one_for_one}
+use Rattle.mig_base.specs.WrittenBoard.{IsWritable, chip_name}
+use Rattle.mig_base.proofs.Amongs.{among-get, among-map, pass-all}
+use Rattle.new_board.specs.OneForOne.{same_chips, place_line, plan_chip, one_for_one}
 use Rattle.rebuilt_boards.proofs.RebuiltCircuit.{board_of}
 use Rattle.rebuilt_boards.specs.RebuiltBoards.{built_chips, is_small_pin, is_small_line, IsSmallPlan, BoardsAreBuiltWell}
 use Rattle.new_board.specs.declared.types.FittedChip.{FittedChip}
-use Rattle.new_board.proofs.Items.{among-get, among-unmap, all-pass, pass-all}
+use Rattle.new_board.proofs.Items.{all-pass}
 use Rattle.rebuilt_boards.proofs.PalCells.{pal16-table}
 use Rattle.rebuilt_boards.proofs.PalUnits.{IsPalChip, ArePals, pal-unit}
 use Rattle.rebuilt_boards.proofs.PalBoards.{IsPalBoard}
@@ -41,13 +42,13 @@ small-pins pin a = leb-true pin 19 (all-pass (λ (p : ℕ). leb p 19) pin (cell_
 small-line : (net : Net) (chips : List ChipCells) (u : ChipUnit) → IsPalBoard net chips → IsWritable net → Among u (units_from 0 chips) → is_small_line (place_line net u) ≡ true
 small-line net chips u board w a =
     let p = pal-unit net chips u board.pals a in
-    let name : chip_named_at net u.chip ≡ p.line.name =
+    let name : chip_name net u.chip ≡ p.line.name =
     get_or_from_slice_get (map (λ (c : ChipLine). c.name) net.chips) u.chip p.line.name []
     (slice_get-map (λ (c : ChipLine). c.name) net.chips u.chip ∙ ap (option_map (λ (c : ChipLine). c.name)) p.line_is) in
-    let named : is_name (chip_named_at net u.chip) ≡ true = ap is_name name ∙ all-pass (λ (c : ChipLine). is_name c.name) p.line net.chips w.named_chips (among-get net.chips u.chip p.line p.line_is) in
+    let named : is_name (chip_name net u.chip) ≡ true = ap is_name name ∙ all-pass (λ (c : ChipLine). is_name c.name) p.line net.chips w.named_chips (among-get net.chips u.chip p.line p.line_is) in
     let low = small-pins u.cell.pin (subst (Among u.cell.pin) (sym (pal16-table p.line.kind p.chip.pal).cells) p.pin) in
-    let small : is_small_pin (chip_named_at net u.chip) u.cell.pin ≡ true = and_from _ _ named (lt-ltb u.cell.pin 256 (omega arith)) in
-    and_from (is_small_pin (chip_named_at net u.chip) u.cell.pin) (is_small_pin (chip_named_at net u.chip) u.cell.pin) small small
+    let small : is_small_pin (chip_name net u.chip) u.cell.pin ≡ true = and_from _ _ named (lt-ltb u.cell.pin 256 (omega arith)) in
+    and_from (is_small_pin (chip_name net u.chip) u.cell.pin) (is_small_pin (chip_name net u.chip) u.cell.pin) small small
 
 -- at most eight units a chip
 
@@ -83,7 +84,7 @@ small-plan net chips w board = record {
       all-after is_name (λ (c : PlanChip). c.name) (one_for_one net chips).chips ∙ ap (list_all is_name) (plan-names net chips board)
       ∙ sym (all-after is_name (λ (c : ChipLine). c.name) net.chips) ∙ w.named_chips;
   lines = pass-all is_small_line (one_for_one net chips).lines (λ l a.
-      let u = among-unmap (place_line net) l (units_from 0 chips) a in
+      let u = among-map (place_line net) l (units_from 0 chips) a in
       ap is_small_line u.2 ∙ small-line net chips u.0 board w u.1);
 }
 

@@ -23,6 +23,8 @@ use Rattle.mig_base.specs.Values.{source_level, literal_value, product_value, su
 use Rattle.mig_base.specs.Among.{Among}
 use Rattle.mig_base.specs.Boards.{ChipUnit, is_registered, registers_of, at_of, place_of, net_of, read_of, literals_of, enable_on, can_drive, driver_of, circuit_on}
 use Rattle.mig_base.specs.Structure.{variable_product}
+use Rattle.mig_base.proofs.ListLaws.{all-append}
+use Rattle.mig_base.proofs.Amongs.{among-map, all-among}
 use Rattle.level_laws.specs.Settled.{gated}
 use Rattle.level_laws.specs.Follows.{SameAt}
 use Rattle.level_laws.proofs.Unique.{all_left, all_right}
@@ -31,7 +33,6 @@ use Rattle.new_board.specs.declared.types.PlacedUnit.{PlacedUnit}
 use Rattle.new_board.specs.OneForOne.{terms_over, old_comb, old_rows}
 use Rattle.new_board.specs.InputPins.{pin_net, pin_reads}
 use Rattle.new_board.specs.NewFiles.{new_product, new_terms, new_enable, cell_by, cell_of, new_cell, new_cells}
-use Rattle.new_board.proofs.Items.{all-append, among-unmap, of-all}
 use Rattle.new_board.proofs.Variables.{AliasesFit, AreVariables, variable-value, variable_product-value}
 use Rattle.new_board.proofs.Columns.{source_at, placed_lit, IsReading, IsReadable, RegistersFit, product-lit, new_product-value}
 use Rattle.rebuilt_boards.proofs.RebuiltCircuit.{board_of, chip_at, rebuilt_unit, rebuilt_units, UnitsFit, IsPin, pin-old, pin-wire}
@@ -74,12 +75,12 @@ pub record ReadsAll (b : OldBoard) (news : List NewChip) (j : ℕ) (chip : NewCh
 -- then all that the new product reads has it
 pub product-all : (b : OldBoard) (news : List NewChip) (j : ℕ) (chip : NewChip) (P : Read → Type 0) (lits : List Literal) → IsReadable b chip lits → ReadsAll b news j chip P lits →
     AllByRecursion P (product_reads (rebuilt_product b news j chip lits))
-product-all b news j chip P lits readable all = of-all P (product_reads (rebuilt_product b news j chip lits)) at
+product-all b news j chip P lits readable all = all-among P (product_reads (rebuilt_product b news j chip lits)) at
   where
     at : (v : Read) → Among v (product_reads (rebuilt_product b news j chip lits)) → P v
     at v a =
-        let z = among-unmap (λ (z : Literal). z.source) v (rebuilt_product b news j chip lits) a in
-        let y = among-unmap (placed_lit (new_place b news j)) z.0 (new_product b chip lits) z.1 in
+        let z = among-map (λ (z : Literal). z.source) v (rebuilt_product b news j chip lits) a in
+        let y = among-map (placed_lit (new_place b news j)) z.0 (new_product b chip lits) z.1 in
         let x = product-lit b chip lits readable y.0 y.1 in
         let is : v ≡ new_place b news j y.0.source = z.2 ∙ ap (λ (q : Literal). q.source) y.2 in
         subst P (sym is) (all.each x.0 x.1 y.0 x.2)

@@ -5,6 +5,7 @@ use Rattle.std.specs.List.{slice_get}
 use Rattle.std.specs.Option.{option_map}
 use Rattle.std.proofs.lemmas.Bool.{cases_lt}
 use Rattle.std.proofs.lemmas.Option.{same_Some, slice_get-map, slice_get_within}
+use Rattle.std.proofs.Math.Bool.{or-true}
 use Rattle.mig_base.specs.declared.kinds.Kind.{Kind}
 use Rattle.mig_base.specs.declared.cells.ChipCells.{ChipCells}
 use Rattle.mig_base.specs.declared.nets.Net.{Net}
@@ -21,6 +22,7 @@ use Rattle.mig_base.specs.DeviceTables.{ordinary_pins, cell_pins, enable_pin, is
 use Rattle.mig_base.specs.Cells.{is_among}
 use Rattle.mig_base.specs.Boards.{At, ChipUnit, at_of, net_of, low_pin, driver_of, register_of, units_from, circuit_on}
 use Rattle.mig_base.specs.Structure.{alias_of, or_alias, variable_literal, variable_product, variable_gate}
+use Rattle.mig_base.proofs.Amongs.{among-get, among-any}
 use Rattle.structure.specs.Sorted.{has_node}
 use Rattle.structure.proofs.Sorting.{product-none}
 use Rattle.new_board.proofs.EnablePins.{complement, product-single}
@@ -29,10 +31,8 @@ use Rattle.new_board.specs.declared.types.PlacedUnit.{PlacedUnit}
 use Rattle.new_board.specs.InputPins.{wire_for, input_at, input_pins}
 use Rattle.new_board.specs.NewFiles.{number_in}
 use Rattle.new_board.specs.OneForOne.{old_reg, old_rows, same_chip, same_chips}
-use Rattle.new_board.proofs.Items.{among-get, among-any}
 use Rattle.rebuilt_boards.proofs.RebuiltCircuit.{board_of, old-named, IsPin, pin-old, named-net}
 use Rattle.new_board.proofs.NewWiring.{rebuilt_net, kept_of, NumbersFit}
-use Rattle.mig_base.proofs.ListLaws.{or-certain}
 use Rattle.rebuilt_boards.proofs.OldRows.{old-reg}
 use Rattle.rebuilt_boards.proofs.PalCells.{pal16-table}
 use Rattle.rebuilt_boards.proofs.PalUnits.{ArePals, IsPalChip, pal-unit, unit-from, same-found}
@@ -57,7 +57,7 @@ low-enable b (suc (suc n)) h =
     (ap (λ (q : Bool). cond q (Product []) (cond (eqb (suc (suc n)) 1) Never (Product (complement (suc (suc n)) ∷ [])))) zero_no ∙ ap (λ (q : Bool). cond q Never (Product (complement (suc (suc n)) ∷ []))) one_no)
     ∙ ap (λ (xs : List Literal). enable_net b (Product xs)) (complement-product b.circuit (suc (suc n)) (slice_get_within b.circuit.nets (suc (suc n)) u.wire u.found) (undriven-alias b.circuit (suc (suc n)) u))
     ∙ ap (λ (q : Bool). when q (Some (suc (suc n))))
-    (ap (λ (q : Bool). ltb (suc (suc n)) (private_from b.net) || q) (undriven-no_driver b.circuit (suc (suc n)) u) ∙ or-certain (ltb (suc (suc n)) (private_from b.net)))
+    (ap (λ (q : Bool). ltb (suc (suc n)) (private_from b.net) || q) (undriven-no_driver b.circuit (suc (suc n)) u) ∙ or-true (ltb (suc (suc n)) (private_from b.net)))
 
 -- a new chip that has a register
 pub record HasRegister (net : Net) (chips : List ChipCells) (j : ℕ) (line : ChipLine) (cells : ChipCells) : Type 0 where

@@ -12,11 +12,13 @@ use Rattle.mig_base.specs.declared.nets.Net.{Net}
 use Rattle.mig_base.specs.DeviceTables.{is_22}
 use Rattle.mig_base.specs.Boards.{ChipUnit, circuit_on}
 use Rattle.mig_base.specs.Structure.{same_read, alias_of, all_variables, variable_literal, variable_product}
+use Rattle.mig_base.proofs.Amongs.{among-any, among-left, among-flat_map, map-among, product-among}
+use Rattle.mig_base.proofs.ReadLaws.{same-read}
 use Rattle.new_board.specs.NewChip.{OldBoard, NewChip, unit_on, register_driven, private_from, fixed_net, or_option, alias_net, is_register_of, is_read, products_by, unit_products, control_products, chip_products, needed_variables, has_no_driver}
 use Rattle.new_board.specs.OneForOne.{old_rows, terms_over}
 use Rattle.new_board.specs.InputPins.{wire_for, input_at, input_pins, pin_net, reading_pin}
-use Rattle.new_board.proofs.Items.{among-filter, among-unfilter, among-any, among-left, among-flat_map, among-map}
-use Rattle.new_board.proofs.Variables.{same-read, AreVariables, product-among}
+use Rattle.new_board.proofs.Items.{among-filter, among-unfilter}
+use Rattle.new_board.proofs.Variables.{AreVariables}
 use Rattle.new_board.proofs.Columns.{first-among}
 use Rattle.new_board.proofs.Reading.{EnableApart, Stood, IsWired, needed-readable}
 use Rattle.rebuilt_boards.proofs.RebuiltCircuit.{board_of}
@@ -96,4 +98,4 @@ comb-products net units chip i u t on e f a =
     ∙ ap (λ (o : Option ℕ). products_by (is_22 chip.kind) o (comb_rows b u.cell.pin i u f.lits)) (ap register_driven (unit-driver net units i u e f)) in
     among-left (variable_product c t) (flat_map (unit_products c chip) chip.units) (control_products c chip)
     (among-flat_map (unit_products c chip) x (variable_product c t) chip.units (on-unit chip.units u.cell.pin x on).0
-    (subst (λ (ps : List (List Literal)). Among (variable_product c t) ps) (sym rows) (among-map (variable_product c) t (f.lits ∷ old_terms b u) a)))
+    (subst (λ (ps : List (List Literal)). Among (variable_product c t) ps) (sym rows) (map-among (variable_product c) t (f.lits ∷ old_terms b u) a)))

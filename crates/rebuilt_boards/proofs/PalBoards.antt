@@ -17,11 +17,12 @@ use Rattle.mig_base.specs.Values.{row_reads}
 use Rattle.mig_base.specs.WellFormed.{is_reg}
 use Rattle.mig_base.specs.Boards.{ChipUnit, net_of, is_registered, low_pin, can_drive, driver_of, makes_unit, units_from, circuit_on}
 use Rattle.mig_base.specs.Structure.{alias_of, alias_only}
+use Rattle.mig_base.proofs.Amongs.{among-get}
 use Rattle.new_board.specs.NewChip.{NewChip}
 use Rattle.new_board.specs.NewFiles.{new_cell}
 use Rattle.new_board.specs.OneForOne.{same_chip, same_chips}
 use Rattle.taken_boards.specs.TakenBoards.{is_undriven}
-use Rattle.new_board.proofs.Items.{among-get, get-among}
+use Rattle.new_board.proofs.Items.{get-among}
 use Rattle.new_board.proofs.Wiring.{LinesFit}
 use Rattle.rebuilt_boards.proofs.RebuiltCircuit.{board_of, chip_at, rebuilt_unit, rebuilt_units}
 use Rattle.new_board.proofs.NewWiring.{rebuilt_net, kept_of}

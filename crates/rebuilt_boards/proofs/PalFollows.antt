@@ -15,12 +15,13 @@ use Rattle.mig_base.specs.Values.{source_level, literal_value}
 use Rattle.mig_base.specs.DeviceTables.{pair_pins, is_22}
 use Rattle.mig_base.specs.Boards.{ChipUnit, at_of, is_port, net_of, is_registered, registers_of, read_of, literals_of, low_pin, driver_of, register_of, units_from, circuit_on}
 use Rattle.mig_base.specs.Structure.{variable_product, variable_gate}
+use Rattle.mig_base.proofs.Amongs.{among-get, map-among, among-map, among-left, among-flat_map}
 use Rattle.level_laws.specs.Follows.{SameAt}
 use Rattle.new_board.specs.NewChip.{NewChip, register_on, register_driven, read_by, products_by, unit_products, control_products, gate_products, chip_products}
 use Rattle.new_board.specs.InputPins.{pin_net, pin_reads}
 use Rattle.new_board.specs.OneForOne.{terms_over, old_rows, same_chip, same_chips}
 use Rattle.new_board.proofs.WellMade.{on-unit}
-use Rattle.new_board.proofs.Items.{among-get, get-among, among-unfilter, among-map, among-unmap, among-left, among-flat_map}
+use Rattle.new_board.proofs.Items.{get-among, among-unfilter}
 use Rattle.new_board.proofs.Variables.{AliasesFit}
 use Rattle.new_board.proofs.Columns.{source_at, RegistersFit}
 use Rattle.rebuilt_boards.proofs.RebuiltCircuit.{board_of, chip_at, rebuilt_unit, rebuilt_units}
@@ -87,7 +88,7 @@ board-pins net chips j chip board found = record {
 columns-fit : (net : Net) (chips : List ChipCells) (j : ℕ) (line : ChipLine) (cells : ChipCells) (plits : List Lit) → IsChip net chips j line cells → AreColumnLits line.kind plits →
     (x : Literal) → Among x (literals_of net (units_from 0 chips) j plits) → LiteralFits (board_of net (units_from 0 chips)) (same_chip (board_of net (units_from 0 chips)) j line cells) x
 columns-fit net chips j line cells plits c columns x a =
-    let y = among-unmap (λ (lit : Lit). record { source = read_of net (units_from 0 chips) j lit.source; high = lit.high }) x plits a in
+    let y = among-map (λ (lit : Lit). record { source = read_of net (units_from 0 chips) j lit.source; high = lit.high }) x plits a in
     subst (LiteralFits (board_of net (units_from 0 chips)) (same_chip (board_of net (units_from 0 chips)) j line cells)) (sym y.2) (column-literal net chips j line cells y.0 c (columns.each y.0 y.1))
 
 pub unit-product : (net : Net) (chips : List ChipCells) (u : ChipUnit) (plits : List Lit) (board : IsPalBoard net chips) (p : IsPalUnit net chips u) → AreColumnLits p.line.kind plits →
@@ -105,8 +106,8 @@ unit-product net chips u plits board p columns a =
 pub comb-term : (net : Net) (chips : List ChipCells) (i : ℕ) (u : ChipUnit) (t : List Literal) → IsPalBoard net chips → slice_get (units_from 0 chips) i ≡ Some u → (c : IsCombUnit net chips u) →
     Among t (old_terms (board_of net (units_from 0 chips)) u) → ProductFits (board_of net (units_from 0 chips)) (chip_at (same_chips net chips) u.chip) t
 comb-term net chips i u t board e c a =
-    let y = among-unmap (literals_of net (units_from 0 chips) u.chip) t u.cell.terms a in
-    let there : Among (literals_of net (units_from 0 chips) u.chip y.0) (old_terms (board_of net (units_from 0 chips)) u) = among-map (literals_of net (units_from 0 chips) u.chip) y.0 u.cell.terms y.1 in
+    let y = among-map (literals_of net (units_from 0 chips) u.chip) t u.cell.terms a in
+    let there : Among (literals_of net (units_from 0 chips) u.chip y.0) (old_terms (board_of net (units_from 0 chips)) u) = map-among (literals_of net (units_from 0 chips) u.chip) y.0 u.cell.terms y.1 in
     subst (ProductFits (board_of net (units_from 0 chips)) (chip_at (same_chips net chips) u.chip)) (sym y.2)
     (unit-product net chips u y.0 board c.pal (c.cell.terms_lits y.0 y.1)
     (comb-products net (units_from 0 chips) (chip_at (same_chips net chips) u.chip) i u (literals_of net (units_from 0 chips) u.chip y.0) (unit-on net chips i u board.pals e) e (comb-of net chips u c) (inr there)))
@@ -139,13 +140,13 @@ reg-products net chips i u t board e r a =
     among-left (variable_product c t) (flat_map (unit_products c chip) chip.units) (control_products c chip)
     (among-flat_map (unit_products c chip) x (variable_product c t) chip.units (on-unit chip.units pin x (unit-on net chips i u board.pals e)).0
     (subst (λ (ps : List (List Literal)). Among (variable_product c t) ps) (sym rows)
-    (among-left (variable_product c t) (terms_over c (old_terms b u)) by_row (among-map (variable_product c) t (old_terms b u) a))))
+    (among-left (variable_product c t) (terms_over c (old_terms b u)) by_row (map-among (variable_product c) t (old_terms b u) a))))
 
 pub reg-term : (net : Net) (chips : List ChipCells) (i : ℕ) (u : ChipUnit) (t : List Literal) → IsPalBoard net chips → slice_get (units_from 0 chips) i ≡ Some u → IsRegUnit net chips u →
     Among t (old_terms (board_of net (units_from 0 chips)) u) → ProductFits (board_of net (units_from 0 chips)) (chip_at (same_chips net chips) u.chip) t
 reg-term net chips i u t board e r a =
-    let y = among-unmap (literals_of net (units_from 0 chips) u.chip) t u.cell.terms a in
-    let there : Among (literals_of net (units_from 0 chips) u.chip y.0) (old_terms (board_of net (units_from 0 chips)) u) = among-map (literals_of net (units_from 0 chips) u.chip) y.0 u.cell.terms y.1 in
+    let y = among-map (literals_of net (units_from 0 chips) u.chip) t u.cell.terms a in
+    let there : Among (literals_of net (units_from 0 chips) u.chip y.0) (old_terms (board_of net (units_from 0 chips)) u) = map-among (literals_of net (units_from 0 chips) u.chip) y.0 u.cell.terms y.1 in
     subst (ProductFits (board_of net (units_from 0 chips)) (chip_at (same_chips net chips) u.chip)) (sym y.2)
     (unit-product net chips u y.0 board r.pal (r.cell.terms_lits y.0 y.1) (reg-products net chips i u (literals_of net (units_from 0 chips) u.chip y.0) board e r there))
 

@@ -16,11 +16,11 @@ use Rattle.mig_base.specs.Accepted.{is_fixed}
 use Rattle.mig_base.specs.Among.{Among}
 use Rattle.mig_base.specs.DeviceTables.{pair_pins, ordinary_pins, enable_pin, is_v8}
 use Rattle.mig_base.specs.Boards.{At, ChipUnit, at_of, net_of, is_registered, register_of, units_from, circuit_on}
+use Rattle.mig_base.proofs.Amongs.{among-get}
 use Rattle.new_board.specs.NewChip.{OldBoard, NewChip, unit_on, unit_net, placed_register, register_on, first_registered, placed_clock, clock_net, enable_net, fixed_net, or_option, when, private_from, has_no_driver}
 use Rattle.new_board.specs.InputPins.{pin_net}
 use Rattle.new_board.specs.declared.types.PlacedUnit.{PlacedUnit}
 use Rattle.new_board.specs.OneForOne.{old_reg, same_chip, same_chips}
-use Rattle.new_board.proofs.Items.{among-get}
 use Rattle.new_board.proofs.Columns.{source_at}
 use Rattle.rebuilt_boards.proofs.RebuiltCircuit.{board_of, UnitsFit, IsPin, old-private_wire}
 use Rattle.new_board.proofs.NewWiring.{rebuilt_net, kept_of}

@@ -21,7 +21,8 @@ use Rattle.mig_base.specs.Ranked.{Ranked}
 use Rattle.taken_boards.specs.TakenBoards.{is_undriven, is_undriven_wire}
 use Rattle.taken_boards.specs.TakenBoards.{gives_sum, is_combinational, is_combinational_wire, is_combinational_net}
 use Rattle.mig_base.specs.Boards.{ChipUnit, at_of, is_registered, registers_of, driver_of, register_of, units_from, circuit_on}
-use Rattle.new_board.proofs.Items.{of-all, among-any, among-append, among-unflat_map, among-get, among-unfilter, among-unmap}
+use Rattle.mig_base.proofs.Amongs.{all-among, among-any, among-split, among-get, among-map}
+use Rattle.new_board.proofs.Items.{among-unflat_map, among-unfilter}
 use Rattle.rebuilt_boards.proofs.RebuiltCircuit.{board_of}
 use Rattle.rebuilt_boards.proofs.Combinational.{old_terms}
 use Rattle.rebuilt_boards.proofs.PalUnits.{pal-unit}
@@ -102,7 +103,7 @@ pal-ranked c h = record { falls = falls; below = below }
 
     driver : (n i : ℕ) (w : Wire) (v : Read) → slice_get c.nets n ≡ Some w → Among i w.drivers → (o : Option Driver) → slice_get c.units i ≡ o → Among v (driver_reads o) → pal_rank c v < pal_rank c (OfNet n)
     driver n i w v e a None u r = absurd r
-    driver n i w v e a (Some d) u r = at (among-append v (row_reads d.enable) (gives_reads d.gives) r)
+    driver n i w v e a (Some d) u r = at (among-split v (row_reads d.enable) (gives_reads d.gives) r)
       where
         at : Among v (row_reads d.enable) ⊎ Among v (gives_reads d.gives) → pal_rank c v < pal_rank c (OfNet n)
         at (inl k) = by (gives_sum d.gives) refl
@@ -119,7 +120,7 @@ pal-ranked c h = record { falls = falls; below = below }
         at (inr k) = gives n i w d v e a u d.gives refl k
 
     falls : (v : Read) → AllByRecursion (λ w. pal_rank c w < pal_rank c v) (node_reads c v)
-    falls (OfNet n) = of-all (λ w. pal_rank c w < pal_rank c (OfNet n)) (node_reads c (OfNet n)) (at (slice_get c.nets n) refl)
+    falls (OfNet n) = all-among (λ w. pal_rank c w < pal_rank c (OfNet n)) (node_reads c (OfNet n)) (at (slice_get c.nets n) refl)
       where
         at : (o : Option Wire) → slice_get c.nets n ≡ o → (v : Read) → Among v (reads_of_wire c o) → pal_rank c v < pal_rank c (OfNet n)
         at None e v a = absurd a
@@ -167,10 +168,10 @@ old-ranks net chips u board reads a = record { registered = λ s v k. board.enab
 pub old-rankable : (net : Net) (chips : List ChipCells) → IsPalBoard net chips → ReadsRegistered net chips → IsRankable (circuit_on net (units_from 0 chips))
 old-rankable net chips board reads = record {
   drivers = λ i d e.
-      let u = among-unmap (driver_of net (units_from 0 chips)) d (units_from 0 chips) (among-get (circuit_on net (units_from 0 chips)).units i d e) in
+      let u = among-map (driver_of net (units_from 0 chips)) d (units_from 0 chips) (among-get (circuit_on net (units_from 0 chips)).units i d e) in
       subst (DriverRanks (circuit_on net (units_from 0 chips))) (sym u.2) (old-ranks net chips u.0 board reads u.1);
   resets = λ k r e.
-      let u = among-unmap (register_of net (units_from 0 chips)) r (registers_of (units_from 0 chips)) (among-get (circuit_on net (units_from 0 chips)).registers k r e) in
+      let u = among-map (register_of net (units_from 0 chips)) r (registers_of (units_from 0 chips)) (among-get (circuit_on net (units_from 0 chips)).registers k r e) in
       ap (λ (x : Register). x.reset) u.2
       ∙ pal-reset net chips (units_from 0 chips) u.0 (pal-unit net chips u.0 board.pals (among-unfilter is_registered u.0 (units_from 0 chips) u.1).0);
 }

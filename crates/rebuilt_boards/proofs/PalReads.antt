@@ -31,12 +31,15 @@ use Rattle.mig_base.specs.Cells.{is_among, pal_cell}
 use Rattle.mig_base.specs.WellFormed.{is_reg}
 use Rattle.mig_base.specs.Boards.{At, ChipUnit, at_of, pins_from, net_of, is_registered, register_of, read_of, literals_of, driver_of, drives, can_drive, places_from, kinds_of, is_unit, makes_unit, units_from, circuit_on}
 use Rattle.mig_base.specs.Structure.{same_read, alias_of, or_alias, all_variables, variable_by, variable_literal, variable_of}
+use Rattle.mig_base.proofs.Amongs.{among-get, map-among, any-among, among-any}
+use Rattle.mig_base.proofs.ReadLaws.{same-read}
+use Rattle.mig_base.proofs.Aliases.{alias-is, IsAlias}
 use Rattle.new_board.specs.NewChip.{OldBoard, NewChip, unit_on, unit_net, unit_net_of, placed_register, register_on, first_registered, placed_clock, clock_net, private_from, is_register_of, read_by, is_literal_of, is_read_at, is_read, fixed_net, or_option, has_no_driver}
 use Rattle.new_board.specs.InputPins.{stood_on}
 use Rattle.new_board.specs.declared.types.PlacedUnit.{PlacedUnit}
 use Rattle.new_board.specs.OneForOne.{old_rows, same_chip}
-use Rattle.new_board.proofs.Items.{get-among, among-get, among-filter, among-unfilter, among-map, any-among, among-any}
-use Rattle.new_board.proofs.Variables.{same-read, net-variable, register-variable, among-made_from}
+use Rattle.new_board.proofs.Items.{get-among, among-filter, among-unfilter}
+use Rattle.new_board.proofs.Variables.{net-variable, register-variable, among-made_from}
 use Rattle.new_board.proofs.Columns.{among-first}
 use Rattle.new_board.proofs.Wiring.{LinesFit, among-pins, private-own, wire_of}
 use Rattle.new_board.proofs.Reading.{EnableApart, IsFree, Stood, IsWired}
@@ -47,7 +50,6 @@ use Rattle.rebuilt_boards.proofs.PalUnits.{ArePals, IsPalChip, pal-unit, pal-apa
 use Rattle.rebuilt_boards.proofs.Undriven.{IsUndriven, NamesFit, undriven-variable, undriven-wired, same-pairs, column-ordinary}
 use Rattle.rebuilt_boards.proofs.NeededVariables.{LiteralFits, alias-net}
 use Rattle.new_board.proofs.KeptNets.{places-get}
-use Rattle.rebuilt_boards.proofs.AliasNets.{IsAlias, alias-is}
 use Rattle.rebuilt_boards.proofs.Ranges.{net-within}
 use Rattle.rebuilt_boards.proofs.RegisterUnits.{reg-unit, register_number, number_if, unit-register, register-get, HoldsUnits, listed-on, listed-at, on-register, first-is}
 
@@ -332,7 +334,7 @@ register-unit net chips j pin line cells c e =
     let cell_pin : Among pin (cell_pins line.kind) = subst (λ (q : ℕ). Among q (cell_pins line.kind)) same (among-of (cell_pins line.kind) p.0 (pal_registers line.kind) table.registers_cells p.1) in
     let cell = pal_cell line.kind c.pal.bits pin in
     let reg = pal-reg line.kind c.pal.bits pin e in
-    let among : Among cell cells.cells = subst (λ (d : ChipCells). Among cell d.cells) (sym c.pal.cells_are) (among-map (pal_cell line.kind c.pal.bits) pin (cell_pins line.kind) cell_pin) in
+    let among : Among cell cells.cells = subst (λ (d : ChipCells). Among cell d.cells) (sym c.pal.cells_are) (map-among (pal_cell line.kind c.pal.bits) pin (cell_pins line.kind) cell_pin) in
     let not_22 : is_22 cells.kind ≡ false = ap (λ (d : ChipCells). is_22 d.kind) c.pal.cells_are ∙ table.not_22 in
     let passes : is_unit cells cell ≡ true = unit-passes cells cell not_22 ∙ ap (λ (f : Form). makes_unit false f) reg.form_is in
     let unit = unit-among 0 j j chips cells cell c.cells_is (omega arith) among passes in

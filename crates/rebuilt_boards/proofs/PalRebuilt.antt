@@ -30,11 +30,12 @@ use Rattle.taken_boards.specs.TakenBoards.{is_undriven, is_undriven_wire}
 use Rattle.taken_boards.specs.TakenBoards.{gives_sum, is_combinational, is_combinational_wire, is_combinational_net}
 use Rattle.mig_base.specs.Boards.{At, ChipUnit, net_of, is_registered, registers_of, low_pin, driver_of, register_of, units_from, circuit_on, circuit}
 use Rattle.mig_base.specs.Structure.{or_alias, alias_of, variable_by, variable_literal, variable_product}
+use Rattle.mig_base.proofs.Amongs.{among-all, among-get, map-among, among-map, among-flat_map, product-among}
+use Rattle.mig_base.proofs.Aliases.{alias-is}
 use Rattle.new_board.specs.NewChip.{OldBoard, NewChip, register_on, read_by, net_literal, private_from}
 use Rattle.new_board.specs.InputPins.{pin_net}
 use Rattle.new_board.specs.OneForOne.{same_chips_from, same_chips}
-use Rattle.new_board.proofs.Items.{filter-map, all-of, among-get, get-among, among-unfilter, among-map, among-unmap, among-flat_map}
-use Rattle.new_board.proofs.Variables.{product-among}
+use Rattle.new_board.proofs.Items.{filter-map, get-among, among-unfilter}
 use Rattle.new_board.proofs.Columns.{IsReading}
 use Rattle.rebuilt_boards.proofs.RebuiltCircuit.{pin-wire, named-wire, board_of, chip_at, rebuilt_unit, rebuilt_units, rebuilt_circuit, IsPin, old-private_wire}
 use Rattle.new_board.proofs.NewWiring.{rebuilt_net}
@@ -43,7 +44,7 @@ use Rattle.rebuilt_boards.proofs.Combinational.{ReadsAll, enable-all, terms-all,
 use Rattle.rebuilt_boards.proofs.PalUnits.{ArePals, units-rebuilt, unit-chip_at}
 use Rattle.new_board.proofs.KeptNumbers.{kept-numbers, ports-same}
 use Rattle.rebuilt_boards.proofs.SameBoards.{same-boards}
-use Rattle.rebuilt_boards.proofs.AliasNets.{FixedFit, alias-is}
+use Rattle.rebuilt_boards.proofs.AliasNets.{FixedFit}
 use Rattle.rebuilt_boards.proofs.RegisterUnits.{comb-unregistered, IsCombUnit, IsRegUnit, unit-cases, reg-unit}
 use Rattle.rebuilt_boards.proofs.Registered.{new-register, new-reg_driver, low-all}
 use Rattle.rebuilt_boards.proofs.PalBoards.{board-stay, IsPalBoard, enable-undriven, register-chip, board-registered, reg-stands}
@@ -172,15 +173,15 @@ comb-ranks net chips i u board reads e c =
     let found = fit.chip u a in
     let enabled = enable-all b news u.chip chip (λ v. is_combinational_net (built net chips) v ≡ false) (variable_product b.circuit f.comb.lits) f.enable_fits.readable
     (registered-reads net chips u.chip chip f.comb.lits board found (λ x k. undriven-plain b.circuit x.source (board.enables u a x.source
-    (subst (λ (d : Driver). Among x.source (row_reads d.enable)) (sym (old-driver b u f.comb)) (among-map (λ (z : Literal). z.source) x f.comb.lits k))))) in
+    (subst (λ (d : Driver). Among x.source (row_reads d.enable)) (sym (old-driver b u f.comb)) (map-among (λ (z : Literal). z.source) x f.comb.lits k))))) in
     let registered = terms-all b news u.chip chip (λ v. is_combinational_net (built net chips) v ≡ false) (old_terms b u) f.terms_fit
     (λ t h. registered-reads net chips u.chip chip t board found (λ x k. reads.each u a (comb-unregistered net chips u c) x.source
-    (among-flat_map product_reads t x.source (old_terms b u) h (among-map (λ (z : Literal). z.source) x t k)))) in
+    (among-flat_map product_reads t x.source (old_terms b u) h (map-among (λ (z : Literal). z.source) x t k)))) in
     subst (DriverRanks (built net chips)) (sym (new-driver net (units_from 0 chips) news i u (fit.on i u e) e f.comb))
     (record {
       registered = λ s v k. cc;
-      enable = λ s v k. all-of (λ v. is_combinational_net (built net chips) v ≡ false) v (row_reads (rebuilt_enable b news u.chip chip (variable_product b.circuit f.comb.lits))) enabled k;
-      terms = λ ts same v k. all-of (λ v. is_combinational_net (built net chips) v ≡ false) v (sum_reads (rebuilt_terms b news u.chip chip (old_terms b u))) registered
+      enable = λ s v k. among-all (λ v. is_combinational_net (built net chips) v ≡ false) v (row_reads (rebuilt_enable b news u.chip chip (variable_product b.circuit f.comb.lits))) enabled k;
+      terms = λ ts same v k. among-all (λ v. is_combinational_net (built net chips) v ≡ false) v (sum_reads (rebuilt_terms b news u.chip chip (old_terms b u))) registered
           (subst (λ (ss : List (List Literal)). Among v (sum_reads ss)) (sym (sums-same (rebuilt_terms b news u.chip chip (old_terms b u)) ts same)) k);
     })
 
@@ -195,7 +196,7 @@ reg-ranks net chips i u board e r =
     ap is_undriven_wire (built-wire net chips (u.chip, 11) n board s.enable) ∙ ap is_undriven_wire free.found ∙ ap (λ (ds : List ℕ). eqb (length ds) 0) free.none in
     subst (DriverRanks (built net chips)) (sym (new-reg_driver net chips (board_old net chips) i u s))
     (record {
-      registered = λ q v k. all-of (λ v. is_undriven (built net chips) v ≡ true) v (row_reads (low_pin m)) (low-all (λ v. is_undriven (built net chips) v ≡ true) n m s.constants here) k;
+      registered = λ q v k. among-all (λ v. is_undriven (built net chips) v ≡ true) v (row_reads (low_pin m)) (low-all (λ v. is_undriven (built net chips) v ≡ true) n m s.constants here) k;
       enable = λ q v k. cc;
       terms = λ ts same v k. cc;
     })
@@ -212,17 +213,17 @@ new-resets net chips u board a =
 built-register : (net : Net) (chips : List ChipCells) (k : ℕ) (r : Register) → IsPalBoard net chips → slice_get (built net chips).registers k ≡ Some r →
     (u : ChipUnit) × Among u (registers_of (units_from 0 chips)) × (r ≡ register_of (built_wiring net chips) (built_units net chips) (built_unit net chips u))
 built-register net chips k r board e =
-    let w = among-unmap (register_of (built_wiring net chips) (built_units net chips)) r (registers_of (built_units net chips)) (among-get (built net chips).registers k r e) in
+    let w = among-map (register_of (built_wiring net chips) (built_units net chips)) r (registers_of (built_units net chips)) (among-get (built net chips).registers k r e) in
     let units : registers_of (built_units net chips) ≡ map (built_unit net chips) (registers_of (units_from 0 chips)) =
     filter-map is_registered is_registered (built_unit net chips) (units_from 0 chips) (λ u a. board-registered net chips u board a) in
-    let u = among-unmap (built_unit net chips) w.0 (registers_of (units_from 0 chips)) (subst (Among w.0) units w.1) in
+    let u = among-map (built_unit net chips) w.0 (registers_of (units_from 0 chips)) (subst (Among w.0) units w.1) in
     (u.0, u.1, w.2 ∙ ap (register_of (built_wiring net chips) (built_units net chips)) u.2)
 
 new-rankable : (net : Net) (chips : List ChipCells) → IsPalBoard net chips → ReadsRegistered net chips → IsRankable (built net chips)
 new-rankable net chips board reads = record {
   drivers = λ i d e.
-      let w = among-unmap (driver_of (built_wiring net chips) (built_units net chips)) d (built_units net chips) (among-get (built net chips).units i d e) in
-      let u = among-unmap (built_unit net chips) w.0 (units_from 0 chips) w.1 in
+      let w = among-map (driver_of (built_wiring net chips) (built_units net chips)) d (built_units net chips) (among-get (built net chips).units i d e) in
+      let u = among-map (built_unit net chips) w.0 (units_from 0 chips) w.1 in
       let k = get-among u.0 (units_from 0 chips) u.1 in
       subst (DriverRanks (built net chips)) (sym (w.2 ∙ ap (driver_of (built_wiring net chips) (built_units net chips)) u.2)) (at k.0 u.0 k.1 (unit-cases net chips u.0 board.pals u.1));
   resets = λ k r e.
@@ -253,7 +254,7 @@ rankable-accepted c fixed clocks h = record { driven = fixed; clocks = clocks; n
 old-clocks : (net : Net) (chips : List ChipCells) → IsPalBoard net chips → (k : ℕ) (r : Register) → slice_get (circuit_on net (units_from 0 chips)).registers k ≡ Some r →
     (w : Wire) × (slice_get (circuit_on net (units_from 0 chips)).nets r.clock ≡ Some w) × (is_fixed w.kind ≡ true)
 old-clocks net chips board k r e =
-    let u = among-unmap (register_of net (units_from 0 chips)) r (registers_of (units_from 0 chips)) (among-get (circuit_on net (units_from 0 chips)).registers k r e) in
+    let u = among-map (register_of net (units_from 0 chips)) r (registers_of (units_from 0 chips)) (among-get (circuit_on net (units_from 0 chips)).registers k r e) in
     let kept = among-unfilter is_registered u.0 (units_from 0 chips) u.1 in
     let w = board.clocks u.0 kept.0 kept.1 in
     (w.0, ap (λ (x : Register). slice_get (circuit_on net (units_from 0 chips)).nets x.clock) u.2 ∙ w.1, w.2)

@@ -3,6 +3,7 @@ use Rattle.std.proofs.Common.{ℕ, zero, suc, ◌≡◌, ◌+◌, ◌≤◌, Boo
 use Rattle.std.specs.List.{filter, list_any, list_all, slice_get}
 use Rattle.std.specs.List.{AllByRecursion}
 use Rattle.std.proofs.lemmas.Option.{same_Some}
+use Rattle.std.proofs.lemmas.List.{map-append}
 use Rattle.mig_base.specs.declared.kinds.Kind.{Kind}
 use Rattle.mig_base.specs.declared.kinds.Kind.TheVariants.{Gal16V8}
 use Rattle.mig_base.specs.declared.cells.Cell.{Cell}
@@ -14,12 +15,13 @@ use Rattle.mig_base.specs.DeviceTables.{is_pal16, cell_pins, ordinary_pins, is_2
 use Rattle.mig_base.specs.Cells.{is_among, pal_cell, pal_cells}
 use Rattle.mig_base.specs.WellFormed.{is_never}
 use Rattle.mig_base.specs.Boards.{At, ChipUnit, can_drive, driver_of, makes_unit, is_unit, in_cell, in_row, units_from, circuit_on}
+use Rattle.mig_base.proofs.Amongs.{among-get, map-among, among-map, among-left, among-right, any-among}
 use Rattle.new_board.specs.declared.types.PlacedUnit.{PlacedUnit}
 use Rattle.new_board.specs.NewChip.{OldBoard, NewChip, private_from, unit_on, has_no_driver}
 use Rattle.new_board.specs.InputPins.{pin_net}
 use Rattle.new_board.specs.NewFiles.{cell_of, new_cell, new_cells, fitted}
 use Rattle.new_board.specs.OneForOne.{old_rows, same_chip, same_chips_from, same_chips}
-use Rattle.new_board.proofs.Items.{map-twice, among-get, among-filter, among-map, among-unmap, among-left, among-right, any-among, all-pass}
+use Rattle.new_board.proofs.Items.{map-twice, among-filter, all-pass}
 use Rattle.new_board.proofs.Wiring.{LinesFit, among-pins}
 use Rattle.rebuilt_boards.proofs.RebuiltCircuit.{board_of, chip_at, chip-at, rebuilt_unit, rebuilt_units, UnitsFit}
 use Rattle.new_board.proofs.NewWiring.{rebuilt_net}
@@ -81,7 +83,7 @@ pal-unit net chips u pals a =
     let p = pal-cells_at net.chips chips u.chip u.cells pals found in
     let same : p.cells ≡ u.cells = same_Some p.cells u.cells (sym p.cells_is ∙ found) in
     let chip : IsPalChip p.line u.cells = subst (IsPalChip p.line) same p.chip in
-    let cell = among-unmap (pal_cell p.line.kind chip.bits) u.cell (cell_pins p.line.kind) (subst (λ (c : ChipCells). Among u.cell c.cells) chip.cells_are o.cell) in
+    let cell = among-map (pal_cell p.line.kind chip.bits) u.cell (cell_pins p.line.kind) (subst (λ (c : ChipCells). Among u.cell c.cells) chip.cells_are o.cell) in
     let pin : u.cell.pin ≡ cell.0 = ap (λ (c : Cell). c.pin) cell.2 ∙ pal-pin p.line.kind chip.bits cell.0 in
     record {
       line = p.line;
@@ -103,7 +105,7 @@ unit-among start zero j (d ∷ ds) c cell e at a h =
     subst (λ (q : ChipCells). Among {T = ChipUnit} (record { chip = j; cells = c; cell = cell }) (map (λ x. record { chip = start; cells = q; cell = x }) (filter (is_unit q) q.cells) ++ units_from (start + 1) ds)) (sym same)
     (subst (λ (k : ℕ). Among {T = ChipUnit} (record { chip = k; cells = c; cell = cell }) (map (λ x. record { chip = start; cells = c; cell = x }) (filter (is_unit c) c.cells) ++ units_from (start + 1) ds)) number
     (among-left (record { chip = start; cells = c; cell = cell }) (map (λ x. record { chip = start; cells = c; cell = x }) (filter (is_unit c) c.cells)) (units_from (start + 1) ds)
-    (among-map (λ (x : Cell). record { chip = start; cells = c; cell = x }) cell (filter (is_unit c) c.cells) (among-filter (is_unit c) cell c.cells a h))))
+    (map-among (λ (x : Cell). record { chip = start; cells = c; cell = x }) cell (filter (is_unit c) c.cells) (among-filter (is_unit c) cell c.cells a h))))
 unit-among start (suc i) j (d ∷ ds) c cell e at a h =
     among-right (record { chip = j; cells = c; cell = cell }) (map (λ x. record { chip = start; cells = d; cell = x }) (filter (is_unit d) d.cells)) (units_from (start + 1) ds)
     (unit-among (start + 1) i j ds c cell e (omega arith) a h)
@@ -222,10 +224,6 @@ units-fit net chips d = record {
 pub record UnitsStay (net : Net) (chips : List ChipCells) : Type 0 where
   pub each : (u : ChipUnit) → Among u (units_from 0 chips) → makes_unit false (new_cell (board_of net (units_from 0 chips)) (chip_at (same_chips net chips) u.chip) u.cell.pin).form ≡ true
 
-false-from : (q : Bool) → (q ≡ true → ⊥) → q ≡ false
-false-from true h = absurd (h refl)
-false-from false h = refl
-
 -- a pin is that of a unit on the new chip where it was on the old one
 cell-stays : (net : Net) (chips : List ChipCells) (j pin : ℕ) (line : ChipLine) (cells : ChipCells) → ArePals net.chips chips → UnitsStay net chips →
     slice_get net.chips j ≡ Some line → slice_get chips j ≡ Some cells → (p : IsPalChip line cells) → Among pin (cell_pins line.kind) →
@@ -239,7 +237,7 @@ cell-stays net chips j pin line cells pals stay line_is cells_is p a = at (makes
     passes = unit-passes cells (pal_cell line.kind p.bits pin) (pal-not_22 line cells p)
 
     among : Among (pal_cell line.kind p.bits pin) cells.cells
-    among = subst (λ (c : ChipCells). Among (pal_cell line.kind p.bits pin) c.cells) (sym p.cells_are) (among-map (pal_cell line.kind p.bits) pin (cell_pins line.kind) a)
+    among = subst (λ (c : ChipCells). Among (pal_cell line.kind p.bits pin) c.cells) (sym p.cells_are) (map-among (pal_cell line.kind p.bits) pin (cell_pins line.kind) a)
 
     none : (o : Option PlacedUnit) → unit_on (same_chip (board_of net (units_from 0 chips)) j line cells).units pin ≡ o → makes_unit false (pal_cell line.kind p.bits pin).form ≡ false → o ≡ None
     none None e idle_ = refl
@@ -249,7 +247,7 @@ cell-stays net chips j pin line cells pals stay line_is cells_is p a = at (makes
         let chip : r.unit.chip ≡ j = ap (λ (q : At). q.0) r.place in
         let its_pin : r.unit.cell.pin ≡ pin = ap (λ (q : At). q.1) r.place in
         let cells_same : r.unit.cells ≡ cells = same_Some r.unit.cells cells (sym q.cells_is ∙ ap (slice_get chips) chip ∙ cells_is) in
-        let cell = among-unmap (pal_cell line.kind p.bits) r.unit.cell (cell_pins line.kind)
+        let cell = among-map (pal_cell line.kind p.bits) r.unit.cell (cell_pins line.kind)
         (subst (λ (c : ChipCells). Among r.unit.cell c.cells) (cells_same ∙ p.cells_are) (unit-of 0 chips r.unit (among-get (units_from 0 chips) x.unit r.unit r.found)).cell) in
         let cell_pin : cell.0 ≡ pin = sym (pal-pin line.kind p.bits cell.0) ∙ sym (ap (λ (c : Cell). c.pin) cell.2) ∙ its_pin in
         let yes : true ≡ false = sym q.passes ∙ ap (λ (c : Cell). makes_unit false c.form) (cell.2 ∙ ap (pal_cell line.kind p.bits) cell_pin) ∙ idle_ in
@@ -265,10 +263,6 @@ cell-stays net chips j pin line cells pals stay line_is cells_is p a = at (makes
     at false e =
         ap (λ (o : Option PlacedUnit). makes_unit false (cell_of (board_of net (units_from 0 chips)) (same_chip (board_of net (units_from 0 chips)) j line cells) pin o).form)
         (none (unit_on (same_chip (board_of net (units_from 0 chips)) j line cells).units pin) refl e)
-
-map-append : {T S : Type 0} (f : T → S) (xs ys : List T) → map f (xs ++ ys) ≡ map f xs ++ map f ys
-map-append f [] ys = refl
-map-append {S = S} f (x ∷ xs) ys = ap (λ (rest : List S). f x ∷ rest) (map-append f xs ys)
 
 chips-rebuilt : (net : Net) (all : List ChipCells) (start : ℕ) (lines : List ChipLine) (chips : List ChipCells) → ArePals net.chips all → UnitsStay net all → ArePals lines chips →
     ((i : ℕ) (line : ChipLine) → slice_get lines i ≡ Some line → slice_get net.chips (start + i) ≡ Some line) →

@@ -1,7 +1,7 @@
 -- The units of a board and the pins that they keep.
 use Rattle.std.proofs.Common.{ℕ, zero, suc, ◌≡◌, ◌+◌, Bool, true, false, not, cond, ◌&&◌, List, [], ◌∷◌, ◌++◌, map, Some, refl, sym, ap, ◌∙◌, subst, inl, inr, ◌⊎◌, eqb, eqb-true, eq-eqb, arith}
 use Rattle.std.specs.List.{filter, list_any, AllByRecursion, slice_get}
-use Rattle.std.proofs.lemmas.Bool.{and_parts}
+use Rattle.std.proofs.lemmas.Bool.{and_parts, false_from_ne_true}
 use Rattle.std.proofs.lemmas.Option.{same_Some}
 use Rattle.mig_base.specs.declared.cells.Cell.{Cell}
 use Rattle.mig_base.specs.declared.cells.ChipCells.{ChipCells}
@@ -10,11 +10,13 @@ use Rattle.mig_base.specs.Among.{Among}
 use Rattle.mig_base.specs.Boards.{At, ChipUnit, at_of, is_unit, units_from}
 use Rattle.mig_base.specs.WrittenBoard.{are_distinct}
 use Rattle.mig_base.specs.declared.circuit.Circuit.{Circuit}
+use Rattle.mig_base.proofs.ListLaws.{all-get}
+use Rattle.mig_base.proofs.Amongs.{among-map, among-split, all-among, among-any}
 use Rattle.new_board.specs.declared.types.PlacedUnit.{PlacedUnit}
 use Rattle.new_board.specs.NewChip.{OldBoard, unit_on}
 use Rattle.new_board.specs.OneForOne.{old_rows, placed_from, same_chip, same_chips_from}
 use Rattle.rebuilt_boards.proofs.OldRows.{old-pin, old-unit}
-use Rattle.new_board.proofs.Items.{all-filter, among-unfilter, among-unmap, among-append, of-all, among-any}
+use Rattle.new_board.proofs.Items.{all-filter, among-unfilter}
 
 -- no two units have the same pin
 abbrev pub IsElsewhere : At → ChipUnit → Type 0
@@ -23,11 +25,6 @@ IsElsewhere q u = at_of u ≡ q → ⊥
 abbrev pub AreApart : List ChipUnit → Type 0
 AreApart [] = Unit {0}
 AreApart (u ∷ us) = AllByRecursion (IsElsewhere (at_of u)) us × AreApart us
-
-all-get : {T : Type 0} (P : T → Type 0) (xs : List T) (i : ℕ) (x : T) → AllByRecursion P xs → slice_get xs i ≡ Some x → P x
-all-get P [] i x h e = cc
-all-get P (y ∷ ys) zero x h e = subst P (same_Some y x e) h.0
-all-get P (y ∷ ys) (suc i) x h e = all-get P ys i x h.1 e
 
 placed-first : (c : Circuit) (j s : ℕ) (x : ChipUnit) (rest : List PlacedUnit) (pin : ℕ) →
     unit_on (cond (eqb x.chip j) (old_rows c x.cell.pin s ∷ []) [] ++ rest) pin ≡ cond (eqb x.chip j && eqb x.cell.pin pin) (Some (old_rows c x.cell.pin s)) (unit_on rest pin)
@@ -39,10 +36,6 @@ placed-first c j s x rest pin = at (eqb x.chip j)
 
 both-tests : (n m i k : ℕ) → n ≡ m → i ≡ k → (eqb n m && eqb i k) ≡ true
 both-tests n m i k e f = ap (λ (q : Bool). q && eqb i k) (eq-eqb n m e) ∙ eq-eqb i k f
-
-not-both : (q : Bool) → (q ≡ true → ⊥) → q ≡ false
-not-both true h = absurd (h refl)
-not-both false h = refl
 
 -- a unit is found on its pin, with its old rows
 pub placed-on : (c : Circuit) (s i : ℕ) (us : List ChipUnit) (u : ChipUnit) → AreApart us → slice_get us i ≡ Some u →
@@ -61,7 +54,7 @@ placed-on c s (suc i) (x ∷ xs) u h e =
     let number : s + 1 + i ≡ s + suc i = omega arith in
     placed-first c u.chip s x (placed_from c u.chip (s + 1) xs) u.cell.pin
     ∙ ap (λ (q : Bool). cond q (Some (old_rows c x.cell.pin s)) (unit_on (placed_from c u.chip (s + 1) xs) u.cell.pin))
-    (not-both test (λ both.
+    (false_from_ne_true test (λ both.
     let parts = and_parts (eqb x.chip u.chip) (eqb x.cell.pin u.cell.pin) both in
     let chips : x.chip ≡ u.chip = eqb-true x.chip u.chip parts.0 in
     let pins : x.cell.pin ≡ u.cell.pin = eqb-true x.cell.pin u.cell.pin parts.1 in
@@ -102,12 +95,12 @@ pub record IsUnitOf (start : ℕ) (chips : List ChipCells) (u : ChipUnit) : Type
 
 pub unit-of : (start : ℕ) (chips : List ChipCells) (u : ChipUnit) → Among u (units_from start chips) → IsUnitOf start chips u
 unit-of start [] u a = absurd a
-unit-of start (c ∷ cs) u a = at (among-append u (map (λ cell. record { chip = start; cells = c; cell = cell }) (filter (is_unit c) c.cells)) (units_from (start + 1) cs) a) (unit-of (start + 1) cs u)
+unit-of start (c ∷ cs) u a = at (among-split u (map (λ cell. record { chip = start; cells = c; cell = cell }) (filter (is_unit c) c.cells)) (units_from (start + 1) cs) a) (unit-of (start + 1) cs u)
   where
     at : Among u (map (λ cell. record { chip = start; cells = c; cell = cell }) (filter (is_unit c) c.cells)) ⊎ Among u (units_from (start + 1) cs) →
         (Among u (units_from (start + 1) cs) → IsUnitOf (start + 1) cs u) → IsUnitOf start (c ∷ cs) u
     at (inl h) rest =
-        let found = among-unmap (λ (cell : Cell). record { chip = start; cells = c; cell = cell }) u (filter (is_unit c) c.cells) h in
+        let found = among-map (λ (cell : Cell). record { chip = start; cells = c; cell = cell }) u (filter (is_unit c) c.cells) h in
         let kept = among-unfilter (is_unit c) found.0 c.cells found.1 in
         subst (IsUnitOf start (c ∷ cs)) (sym found.2) (record { number = 0; chip_is = omega arith; cells = refl; cell = kept.0; passes = kept.1 })
     at (inr h) rest =
@@ -141,7 +134,7 @@ append-apart [] ys h k apart = k
 append-apart (x ∷ xs) ys h k apart = (at xs h.0, append-apart xs ys h.1 k (λ z y a. apart z y (inr a)))
   where
     at : (zs : List ChipUnit) → AllByRecursion (IsElsewhere (at_of x)) zs → AllByRecursion (IsElsewhere (at_of x)) (zs ++ ys)
-    at [] g = of-all (IsElsewhere (at_of x)) ys (λ y a. apart x y (inl refl) a)
+    at [] g = all-among (IsElsewhere (at_of x)) ys (λ y a. apart x y (inl refl) a)
     at (z ∷ zs) g = (g.0, at zs g.1)
 
 -- where the cells of each chip have different pins, all units have
@@ -151,7 +144,7 @@ units-apart start (c ∷ cs) h =
     append-apart (map (λ cell. record { chip = start; cells = c; cell = cell }) (filter (is_unit c) c.cells)) (units_from (start + 1) cs)
     (map-apart start c (filter (is_unit c) c.cells) (filter-apart (is_unit c) c.cells h.0)) (units-apart (start + 1) cs h.1)
     (λ x y a d e.
-    let found = among-unmap (λ (cell : Cell). record { chip = start; cells = c; cell = cell }) x (filter (is_unit c) c.cells) a in
+    let found = among-map (λ (cell : Cell). record { chip = start; cells = c; cell = cell }) x (filter (is_unit c) c.cells) a in
     let here : x.chip ≡ start = ap (λ (u : ChipUnit). u.chip) found.2 in
     let there = unit-of (start + 1) cs y d in
     let later : y.chip ≡ start + 1 + there.number = there.chip_is in
@@ -163,8 +156,8 @@ pub made-apart : (f : ℕ → Cell) (pins : List ℕ) → ((p : ℕ) → (f p).p
 made-apart f [] is e = tt
 made-apart f (p ∷ ps) is e =
     let parts = and_parts (not (list_any (eqb p) ps)) (are_distinct eqb ps) e in (
-      of-all (λ (d : Cell). d.pin ≡ (f p).pin → ⊥) (map f ps) (λ d a same.
-          let q = among-unmap f d ps a in
+      all-among (λ (d : Cell). d.pin ≡ (f p).pin → ⊥) (map f ps) (λ d a same.
+          let q = among-map f d ps a in
           let pins : p ≡ q.0 = sym (is p) ∙ sym same ∙ ap (λ (c : Cell). c.pin) q.2 ∙ is q.0 in
           let twice : list_any (eqb p) ps ≡ true = among-any (eqb p) q.0 ps q.1 (eq-eqb p q.0 pins) in
           never (list_any (eqb p) ps) twice parts.0),

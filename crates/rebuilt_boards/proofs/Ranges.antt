@@ -8,11 +8,12 @@ use Rattle.mig_base.specs.declared.nets.Net.{Net}
 use Rattle.mig_base.specs.declared.circuit.Wire.{Wire}
 use Rattle.mig_base.specs.Among.{Among}
 use Rattle.mig_base.specs.Boards.{At, same_at, place_of, line_at, pins_from, privates, net_of, ChipUnit, at_of, is_registered, registers_of, kinds_from, kinds_of, circuit_on}
+use Rattle.mig_base.proofs.ListLaws.{item-at}
+use Rattle.mig_base.proofs.PlaceLaws.{length-kinds_from}
 use Rattle.new_board.specs.NewChip.{private_from}
-use Rattle.new_board.proofs.Wiring.{inner_kind, length-kinds_from, wire_of, net-line, net-private, among-privates, LinesFit, place-get, at-same, same-at}
+use Rattle.new_board.proofs.Wiring.{inner_kind, wire_of, net-line, net-private, among-privates, LinesFit, place-get, at-same, same-at}
 use Rattle.rebuilt_boards.proofs.RebuiltCircuit.{old-wire}
 use Rattle.rebuilt_boards.proofs.Placing.{IsElsewhere, AreApart}
-use Rattle.new_board.proofs.KeptNumbers.{item-at}
 use Rattle.new_board.proofs.Items.{all-filter}
 
 length-kinds : (net : Net) → length (kinds_of net) ≡ private_from net + length (privates net)

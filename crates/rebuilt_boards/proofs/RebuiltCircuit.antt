@@ -17,6 +17,7 @@ use Rattle.mig_base.specs.declared.circuit.Circuit.{Circuit}
 use Rattle.mig_base.specs.Among.{Among}
 use Rattle.mig_base.specs.DeviceTables.{ordinary_pins}
 use Rattle.mig_base.specs.Boards.{At, place_of, line_at, pins_from, privates, net_of, ChipUnit, at_of, places_from, kinds_of, can_drive, driver_of, drives, circuit_on}
+use Rattle.mig_base.proofs.Amongs.{among-get, among-map}
 use Rattle.new_board.specs.NewChip.{OldBoard, NewChip, private_from, unit_on, unit_net, unit_net_of, or_option, has_no_driver}
 use Rattle.new_board.specs.InputPins.{pin_net}
 use Rattle.new_board.specs.NewFiles.{new_cell, new_cells, fitted, wire_at, new_wires, new_number, new_chip_line}
@@ -24,7 +25,7 @@ use Rattle.new_board.specs.declared.types.PlacedUnit.{PlacedUnit}
 use Rattle.new_board.specs.OneForOne.{old_rows}
 use Rattle.rebuilt_boards.proofs.OldRows.{old-unit}
 use Rattle.new_board.proofs.NewWiring.{rebuilt_net, kept_of, cell-pin, NumbersFit}
-use Rattle.new_board.proofs.Items.{among-get, get-among, among-unmap}
+use Rattle.new_board.proofs.Items.{get-among}
 use Rattle.new_board.proofs.Wiring.{wire_of, wires-get, inner_kind, kinds-private, net-line, net-private, among-privates, LinesFit, private-none, private-own, wire_on, new-line, wire-some, wire-none, among-pins, place-get, place-apart, places-same, places-none}
 
 -- the board of a wiring and units
@@ -273,7 +274,7 @@ private-undriven : (b : OldBoard) (news : List NewChip) (old : ℕ → ℕ) (q :
     places_from (drives (rebuilt_net b news) (rebuilt_units b news) (net_of (rebuilt_net b news) q)) 0 (rebuilt_units b news) ≡ []
 private-undriven b news old q n numbers fit p high none =
     places-none (drives (rebuilt_net b news) (rebuilt_units b news) (net_of (rebuilt_net b news) q)) 0 (rebuilt_units b news)
-    (λ x a. let u = among-unmap (rebuilt_unit b news) x b.units a in
+    (λ x a. let u = among-map (rebuilt_unit b news) x b.units a in
     ap (drives (rebuilt_net b news) (rebuilt_units b news) (net_of (rebuilt_net b news) q)) u.2
     ∙ ap (λ (t : Bool). t && can_drive (driver_of (rebuilt_net b news) (rebuilt_units b news) (rebuilt_unit b news u.0)).enable)
     (ap (λ (r : At). eqb (net_of (rebuilt_net b news) r) (net_of (rebuilt_net b news) q)) (rebuilt-at b news u.0)

@@ -19,13 +19,15 @@ use Rattle.mig_base.specs.Values.{row_value, row_reads}
 use Rattle.mig_base.specs.Reads.{driver_reads, reads_of_wire, reads_of_register, node_reads, edge_reads}
 use Rattle.mig_base.specs.Among.{Among}
 use Rattle.mig_base.specs.Boards.{ChipUnit, is_registered, registers_of, driver_of, register_of, circuit_on}
+use Rattle.mig_base.proofs.ListLaws.{all-append}
+use Rattle.mig_base.proofs.Amongs.{among-get}
 use Rattle.level_laws.specs.Settled.{IsSettled, drive_level, wire_level, level_by, visible_levels}
 use Rattle.level_laws.specs.Runs.{clock_by, clock_level, rises, taken, next_stored, shown_levels, power_up}
 use Rattle.level_laws.specs.SameBehaviour.{IsLawful}
 use Rattle.level_laws.specs.Follows.{SameAt, Follows}
 use Rattle.level_laws.proofs.Unique.{level_at-map, all_left, all_right}
 use Rattle.new_board.specs.NewChip.{OldBoard, NewChip, private_from}
-use Rattle.new_board.proofs.Items.{filter-map, map-twice, all-append, among-get}
+use Rattle.new_board.proofs.Items.{filter-map, map-twice}
 use Rattle.new_board.proofs.Variables.{AliasesFit}
 use Rattle.rebuilt_boards.proofs.RebuiltCircuit.{board_of, rebuilt_unit, rebuilt_units, rebuilt_circuit, old_net, old-named, UnitsFit, named-wire}
 use Rattle.new_board.proofs.NewWiring.{rebuilt_net, NumbersFit}

@@ -15,13 +15,14 @@ use Rattle.mig_base.specs.Cells.{is_among}
 use Rattle.mig_base.specs.WellFormed.{is_reg}
 use Rattle.mig_base.specs.Boards.{At, ChipUnit, at_of, place_of, net_of, is_registered, registers_of, literals_of, enable_on, low_pin, makes_unit, driver_of, register_of, units_from, circuit_on}
 use Rattle.mig_base.specs.declared.circuit.Circuit.{Circuit}
+use Rattle.mig_base.proofs.Amongs.{map-among, among-map, among-split, among-any, any-among}
+use Rattle.mig_base.proofs.ListLaws.{both-ways}
 use Rattle.new_board.specs.declared.types.PlacedUnit.{PlacedUnit}
 use Rattle.new_board.specs.NewChip.{NewChip, unit_on, register_given, register_driven, unit_register, placed_register, register_on, is_registered_unit, first_registered}
 use Rattle.new_board.specs.NewFiles.{registered_pins}
 use Rattle.new_board.specs.OneForOne.{old_rows, placed_from}
-use Rattle.new_board.proofs.Items.{among-filter, among-unfilter, among-map, among-unmap, among-append, among-any, any-among}
+use Rattle.new_board.proofs.Items.{among-filter, among-unfilter}
 use Rattle.new_board.proofs.Columns.{RegistersFit, first-among, among-first}
-use Rattle.new_board.proofs.Products.{both-ways}
 use Rattle.rebuilt_boards.proofs.RebuiltCircuit.{board_of}
 use Rattle.rebuilt_boards.proofs.Combinational.{IsComb}
 use Rattle.rebuilt_boards.proofs.Placing.{AreApart, IsUnitAt, placed-on}
@@ -132,7 +133,7 @@ placed-among : (c : Circuit) (j s : ℕ) (y : PlacedUnit) (us : List ChipUnit) �
     (k : ℕ) × (y.unit ≡ s + k) × IsUnitAt us (j, y.pin) k × (y ≡ old_rows c y.pin y.unit)
 placed-among c j s y [] a = absurd a
 placed-among c j s y (x ∷ xs) a =
-    at (among-append y (cond (eqb x.chip j) (old_rows c x.cell.pin s ∷ []) []) (placed_from c j (s + 1) xs) a) (placed-among c j (s + 1) y xs)
+    at (among-split y (cond (eqb x.chip j) (old_rows c x.cell.pin s ∷ []) []) (placed_from c j (s + 1) xs) a) (placed-among c j (s + 1) y xs)
   where
     first : (q : Bool) → eqb x.chip j ≡ q → Among y (cond q (old_rows c x.cell.pin s ∷ []) []) → (k : ℕ) × (y.unit ≡ s + k) × IsUnitAt (x ∷ xs) (j, y.pin) k × (y ≡ old_rows c y.pin y.unit)
     first true is (inl e) =
@@ -247,7 +248,7 @@ registers-fit net units j chip h = record { each = λ pin. both-ways (is_among (
     there pin e =
         let c = circuit_on net units in
         let p = any-among (λ p. eqb p pin) (registered_pins (board_of net units) chip) e in
-        let x = among-unmap (λ (x : PlacedUnit). x.pin) p.0 (filter (is_registered_unit c) chip.units) p.1 in
+        let x = among-map (λ (x : PlacedUnit). x.pin) p.0 (filter (is_registered_unit c) chip.units) p.1 in
         let kept = among-unfilter (is_registered_unit c) x.0 chip.units x.1 in
         let r = listed-unit c units j chip x.0 h kept.0 in
         let same : x.0.pin ≡ pin = sym x.2 ∙ eqb-true p.0 pin p.2 in
@@ -261,5 +262,5 @@ registers-fit net units j chip h = record { each = λ pin. both-ways (is_among (
         at (Some x) is e =
             let found = on-unit chip.units pin x is in
             among-any (λ p. eqb p pin) x.pin (registered_pins (board_of net units) chip)
-            (among-map (λ (x : PlacedUnit). x.pin) x (filter (is_registered_unit (circuit_on net units)) chip.units)
+            (map-among (λ (x : PlacedUnit). x.pin) x (filter (is_registered_unit (circuit_on net units)) chip.units)
             (among-filter (is_registered_unit (circuit_on net units)) x chip.units found.0 e)) (eq-eqb x.pin pin found.1)

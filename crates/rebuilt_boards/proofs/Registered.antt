@@ -28,6 +28,8 @@ use Rattle.mig_base.specs.Levels.{read_level, not3, and3, or3, level_at}
 use Rattle.mig_base.specs.DeviceTables.{enable_pin, is_22}
 use Rattle.mig_base.specs.Boards.{At, ChipUnit, at_of, place_of, net_of, is_registered, registers_of, low_pin, row_on, can_drive, driver_of, register_of, units_from, circuit_on}
 use Rattle.mig_base.specs.Structure.{variable_product, variable_gate}
+use Rattle.mig_base.proofs.ListLaws.{all-append}
+use Rattle.mig_base.proofs.Amongs.{among-get}
 use Rattle.level_laws.specs.Settled.{gated}
 use Rattle.level_laws.specs.Follows.{SameAt}
 use Rattle.level_laws.proofs.Unique.{all_left, all_right}
@@ -35,7 +37,7 @@ use Rattle.new_board.specs.NewChip.{OldBoard, NewChip, unit_on, register_driven,
 use Rattle.new_board.specs.declared.types.PlacedUnit.{PlacedUnit}
 use Rattle.new_board.specs.NewFiles.{new_enable, new_terms, new_row, pin_low_of, cell_by, cell_of, new_cell, new_cells, reset_gate, preset_gate}
 use Rattle.new_board.specs.OneForOne.{terms_over, old_rows, same_chip, same_chips}
-use Rattle.new_board.proofs.Items.{filter-map, all-append, among-get}
+use Rattle.new_board.proofs.Items.{filter-map}
 use Rattle.rebuilt_boards.proofs.RebuiltCircuit.{board_of, chip_at, rebuilt_unit, rebuilt_units, rebuilt-at, UnitsFit, IsPin, pin-old, pin-wire}
 use Rattle.new_board.proofs.NewWiring.{rebuilt_net, NumbersFit}
 use Rattle.rebuilt_boards.proofs.RebuiltFollows.{old_read, IsKept, DriverFits, RegisterFits}

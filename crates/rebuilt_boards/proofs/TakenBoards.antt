@@ -23,8 +23,9 @@ use Rattle.mig_base.specs.Boards.{is_registered, registers_of, driver_of, regist
 use Rattle.new_board.specs.InputPins.{chip_from}
 use Rattle.taken_boards.specs.TakenBoards.{is_free, has_few_drivers, is_undriven, are_taken_ports, is_taken_circuit, is_input_kind, is_input_wire, have_one_clock, enable_undriven, terms_registered, is_combinational_net, TakenBoard}
 use Rattle.mig_base.specs.Given.{AreMade}
+use Rattle.mig_base.proofs.Amongs.{among-get, map-among, among-any}
 use Rattle.rebuilt_boards.specs.RebuiltBoards.{BoardsAreRebuilt}
-use Rattle.new_board.proofs.Items.{among-get, among-filter, among-map, all-pass, among-any}
+use Rattle.new_board.proofs.Items.{among-filter, all-pass}
 use Rattle.rebuilt_boards.proofs.RebuiltCircuit.{board_of}
 use Rattle.rebuilt_boards.proofs.Combinational.{old_terms}
 use Rattle.rebuilt_boards.proofs.PalCells.{pal-cells}
@@ -64,7 +65,7 @@ names-from start (suc i) j (l ∷ ls) line d e at =
     apart true is none =
         let same : line.name ≡ l.name = (bytes_eq-Decides line.name l.name).0 is in
         let there : list_any (bytes_eq l.name) (map (λ c. c.name) ls) ≡ true =
-        among-any (bytes_eq l.name) line.name (map (λ (c : ChipLine). c.name) ls) (among-map (λ (c : ChipLine). c.name) line ls (among-get ls i line e)) ((bytes_eq-Decides l.name line.name).1 (sym same)) in
+        among-any (bytes_eq l.name) line.name (map (λ (c : ChipLine). c.name) ls) (map-among (λ (c : ChipLine). c.name) line ls (among-get ls i line e)) ((bytes_eq-Decides l.name line.name).1 (sym same)) in
         let wrong : false ≡ true = sym (ap (λ (q : Bool). not q) there) ∙ none in
         cc
     apart false is none = refl
@@ -126,8 +127,8 @@ taken-board net chips taken =
       lines = wiring-lines net taken.lines;
       names = names-fit net taken.names;
       fixed = λ n w e fixed. few-fixed w (all-pass has_few_drivers w c.nets form.few (among-get c.nets n w e)) fixed;
-      clocks = λ u a r. one-clock c c.registers (register_of net units u) form.clock (among-map (register_of net units) u (registers_of units) (among-filter is_registered u units a r));
-      enables = λ u a v k. all-pass (is_undriven c) v (row_reads (driver_of net units u).enable) (all-pass (enable_undriven c) (driver_of net units u) c.units form.enables (among-map (driver_of net units) u units a)) k;
+      clocks = λ u a r. one-clock c c.registers (register_of net units u) form.clock (map-among (register_of net units) u (registers_of units) (among-filter is_registered u units a r));
+      enables = λ u a v k. all-pass (is_undriven c) v (row_reads (driver_of net units u).enable) (all-pass (enable_undriven c) (driver_of net units u) c.units form.enables (map-among (driver_of net units) u units a)) k;
     }
 
 taken-reads : (net : Net) (chips : List ChipCells) → TakenBoard net chips → ReadsRegistered net chips
@@ -139,7 +140,7 @@ taken-reads net chips taken = record {
       let comb = comb-of net chips u (comb-unit net chips u (taken-pals net chips taken) a r) in
       let all : list_all (λ w. not (is_combinational_net c w)) (sum_reads (old_terms (board_of net units) u)) ≡ true =
       ap (λ (d : Driver). terms_registered c d.gives) (sym (old-driver (board_of net units) u comb))
-      ∙ all-pass (λ d. terms_registered c d.gives) (driver_of net units u) c.units form.terms (among-map (driver_of net units) u units a) in
+      ∙ all-pass (λ d. terms_registered c d.gives) (driver_of net units u) c.units form.terms (map-among (driver_of net units) u units a) in
       not-true (is_combinational_net c v) (all-pass (λ w. not (is_combinational_net c w)) v (sum_reads (old_terms (board_of net units) u)) all k);
 }
   where

@@ -105,8 +105,8 @@ fn joined(alloc: Global, net: Net, chips: Vec<ChipCells>) -> Result<Board, Sampl
 /// The board of a board text and of the fuses of its chips.
 ///
 /// # Errors
-/// The text is refused; as many fuses as the board has no chips; fuses that a chip can't have; what the board is refused for;
-/// `Memory`.
+/// The text is refused; the number of fuse lists isn't that of the board's chips; fuses that a chip can't have; what the
+/// board is refused for; `Memory`.
 pub fn sample_of(alloc: Global, net: &str, fuses: &[Fuses]) -> Result<Board, SampleError>
     ensures { IfOk result (λ board. net_of_text net.now ≡ Ok board.net) }
 {

@@ -14,6 +14,7 @@ use Rattle.mig_base.specs.declared.levels.Level.TheVariants.{Zero, One, Z, X}
 use Rattle.mig_base.specs.declared.nets.Pull.{Pull}
 use Rattle.mig_base.specs.Levels.{level_at, read_level, and3, or3, resolve2, same_level, is_driven}
 use Rattle.mig_base.specs.Resolve.{resolved}
+use Rattle.mig_base.proofs.LevelFacts.{or-known}
 use Rattle.settle.specs.Rules.{wired, pulled_from}
 
 -- a floating level counts as X
@@ -149,12 +150,6 @@ or-one One b h = refl
 or-one Z b h = absurd (h refl)
 or-one X b h = refl
 
-pub reads-known : (a : Level) → read_level a ≢ Z
-reads-known Zero = λ e. cc
-reads-known One = λ e. cc
-reads-known Z = λ e. cc
-reads-known X = λ e. cc
-
 pub and-known : (a b : Level) → and3 a b ≢ Z
 and-known Zero b = λ e. cc
 and-known One Zero = λ e. cc
@@ -169,21 +164,6 @@ and-known X Zero = λ e. cc
 and-known X One = λ e. cc
 and-known X Z = λ e. cc
 and-known X X = λ e. cc
-
-pub or-known : (a b : Level) → or3 a b ≢ Z
-or-known One b = λ e. cc
-or-known Zero One = λ e. cc
-or-known Zero Zero = λ e. cc
-or-known Zero Z = λ e. cc
-or-known Zero X = λ e. cc
-or-known Z Zero = λ e. cc
-or-known Z One = λ e. cc
-or-known Z Z = λ e. cc
-or-known Z X = λ e. cc
-or-known X Zero = λ e. cc
-or-known X One = λ e. cc
-or-known X Z = λ e. cc
-or-known X X = λ e. cc
 
 -- what is 0 where it is read is 0
 pub reads-zero : (a : Level) → Zero ≡ read_level a → a ≡ Zero

@@ -10,7 +10,7 @@ use Rattle.mig_base.specs.declared.levels.Level.{Level}
 use Rattle.mig_base.specs.declared.levels.Level.TheVariants.{Zero, One, Z}
 use Rattle.mig_base.specs.declared.nets.Net.{Net}
 use Rattle.mig_base.specs.declared.nets.Port.{Port}
-use Rattle.mig_base.specs.BoardText.{place_named}
+use Rattle.mig_base.specs.BoardText.{place_named, is_both}
 use Rattle.mig_base.specs.First.{or_else, first_refusal, unless}
 use Rattle.mig_base.specs.Lines.{TextLine, text_lines}
 use Rattle.mig_base.specs.WrittenBoard.{IsWritable}
@@ -19,7 +19,7 @@ use Rattle.mig_base.specs.declared.circuit.Inputs.{Inputs}
 use Rattle.mig_base.specs.declared.scripts.Script.{Script}
 use Rattle.mig_base.specs.declared.scripts.ScriptError.{ScriptError}
 use Rattle.mig_base.specs.declared.scripts.ScriptError.TheVariants.{Line as BadLine, LevelBad, StepsOver}
-use Rattle.sim_run.specs.ScriptText.{ports_of, is_both, level_of, level_by, level_at, level_for, most_steps, refuse, levels_on, levels_refusal, is_end, ends, or_no_names, names_on, line_refusal, inputs_of, inputs_on, text_refusal, script_in, script_of_text}
+use Rattle.sim_run.specs.ScriptText.{ports_of, level_of, level_by, level_at, level_for, most_steps, refuse, levels_on, levels_refusal, is_end, ends, or_no_names, names_on, line_refusal, inputs_of, inputs_on, text_refusal, script_in, script_of_text}
 use Rattle.sim_run.specs.WrittenScript.{takes, fit, IsWritableScript}
 use Rattle.sim_run.proofs.Tables.{step-no-end}
 

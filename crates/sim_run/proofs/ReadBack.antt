@@ -1,10 +1,9 @@
 -- A written script is read back.
-use Rattle.std.proofs.Common.{ℕ, ◌≡◌, ◌+◌, ◌<◌, ◌≤◌, Bool, true, false, not, ◌||◌, List, [], ◌∷◌, ◌++◌, map, length, Option, None, Result, Ok, refl, sym, ap, ◌∙◌, arith, inl, inr}
+use Rattle.std.proofs.Common.{ℕ, ◌≡◌, ◌+◌, ◌≤◌, Bool, true, false, not, ◌||◌, List, [], ◌∷◌, ◌++◌, map, length, Option, None, Result, Ok, refl, ap, ◌∙◌, arith}
 use Rattle.std.specs.Prelude.{codes, nat_le}
 use Rattle.std.specs.List.{list_any, list_all, filter_map, cons_option}
 use Rattle.std.specs.Option.{option_map}
-use Rattle.std.proofs.lemmas.Bool.{and_parts, and_from, or_from, cases_lt, le-leb}
-use Rattle.std.proofs.lemmas.Bool.Decides.{nat_tests}
+use Rattle.std.proofs.lemmas.Bool.{and_parts, and_from, or_from}
 use Rattle.std.proofs.lemmas.List.{length-append}
 use Rattle.std.proofs.lemmas.List.Folds.{list_any-append}
 use Rattle.mig_base.specs.declared.levels.Level.{Level}
@@ -12,9 +11,9 @@ use Rattle.mig_base.specs.declared.levels.Level.TheVariants.{Zero, One, Z, X}
 use Rattle.mig_base.specs.declared.nets.Net.{Net}
 use Rattle.mig_base.specs.First.{or_else, first_refusal, unless}
 use Rattle.mig_base.specs.Lines.{TextLine}
-use Rattle.mig_base.specs.Names.{is_name, is_name_byte}
-use Rattle.mig_base.proofs.TextLemmas.{name-bytes}
+use Rattle.mig_base.specs.Names.{is_name}
 use Rattle.text_lines.proofs.WrittenLines.{is_plain_word, is_plain_line, numbered, lines-written}
+use Rattle.text_lines.proofs.PlainWords.{name-plain}
 use Rattle.sim_run.specs.declared.handed.HandedPort.{HandedPort}
 use Rattle.mig_base.specs.declared.circuit.Inputs.{Inputs}
 use Rattle.mig_base.specs.declared.scripts.Script.{Script}
@@ -31,20 +30,6 @@ abbrev lines_behind : List Inputs → List (List (List ℕ))
 lines_behind steps = map (λ s. step_line s.levels) steps ++ (codes "end" ∷ []) ∷ []
 
 -- written lines are plain
-
-low-byte : (b : ℕ) → b < 33 → is_name_byte b ≡ false
-low-byte b h = grind (arith, nat_tests)
-
-high-byte : (b : ℕ) → is_name_byte b ≡ true → nat_le 33 b ≡ true
-high-byte b h = elim (cases_lt b 33) [ inl low ↦ let e : true ≡ false = sym h ∙ low-byte b low in absurd (let no : ⊥ = cc in no) | inr high ↦ le-leb 33 b high ]
-
-high-bytes : (bs : List ℕ) → list_all is_name_byte bs ≡ true → list_all (nat_le 33) bs ≡ true
-high-bytes [] h = refl
-high-bytes (b ∷ bs) h = let parts : (is_name_byte b ≡ true) × (list_all is_name_byte bs ≡ true) = and_parts _ _ h in and_from _ _ (high-byte b parts.0) (high-bytes bs parts.1)
-
-name-plain : (name : List ℕ) → is_name name ≡ true → is_plain_word name ≡ true
-name-plain [] h = cc
-name-plain (b ∷ bs) h = high-bytes (b ∷ bs) (name-bytes (b ∷ bs) h)
 
 names-plain : (ports : List HandedPort) → list_all (λ p. is_name p.name) ports ≡ true → list_all is_plain_word (names_of ports) ≡ true
 names-plain [] h = refl

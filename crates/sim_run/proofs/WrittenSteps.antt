@@ -1,22 +1,17 @@
 -- The lines that are written, piece by piece.
-use Rattle.std.proofs.Common.{ℕ, ◌≡◌, ◌+◌, Bool, true, false, cond, List, [], ◌∷◌, ◌++◌, map, refl, sym, ap, ◌∙◌, Some, None}
+use Rattle.std.proofs.Common.{ℕ, ◌≡◌, ◌+◌, Bool, true, false, cond, List, [], ◌∷◌, ◌++◌, map, refl, ap, ◌∙◌, Some, None}
 use Rattle.std.specs.Prelude.{codes}
-use Rattle.std.specs.List.{flat_map, join_with_byte, cons_option}
-use Rattle.std.proofs.lemmas.List.{append-nil}
+use Rattle.std.specs.List.{flat_map, cons_option}
 use Rattle.mig_base.specs.declared.nets.NetLine.{NetLine}
 use Rattle.mig_base.specs.Boards.{is_handed}
 use Rattle.mig_base.specs.WrittenBoard.{written_line}
 use Rattle.sim_run.specs.ScriptText.{ports_from}
 use Rattle.sim_run.specs.WrittenScript.{ports_line}
+use Rattle.text_lines.proofs.PlainWords.{spaced}
 
 -- a space and the name of a port that is handed a level
 abbrev pub port_text : NetLine → List ℕ
 port_text l = cond (is_handed l.port) (32 ∷ l.name) []
-
--- words behind a first one, each with a space before it
-spaced : (word : List ℕ) (words : List (List ℕ)) → join_with_byte 32 (word ∷ words) ≡ word ++ flat_map (λ w. 32 ∷ w) words
-spaced word [] = sym (append-nil word)
-spaced word (w ∷ words) = ap (λ (bs : List ℕ). word ++ 32 ∷ bs) (spaced w words)
 
 names-text : (nets : List NetLine) (n : ℕ) → flat_map (λ w. 32 ∷ w) (map (λ p. p.name) (ports_from n nets)) ≡ flat_map port_text nets
 names-text [] n = refl

@@ -10,7 +10,7 @@ use Rattle.mig_base.specs.declared.nets.NetLine.{NetLine}
 use Rattle.mig_base.specs.declared.nets.Port.{Port}
 use Rattle.mig_base.specs.declared.nets.Port.TheVariants as port
 use Rattle.mig_base.specs.Boards.{is_handed}
-use Rattle.mig_base.specs.BoardText.{place_named}
+use Rattle.mig_base.specs.BoardText.{place_named, is_both}
 use Rattle.mig_base.specs.First.{or_else, first_refusal, unless}
 use Rattle.mig_base.specs.Lines.{TextLine, text_lines}
 use Rattle.mig_base.specs.Names.{is_name}
@@ -71,10 +71,6 @@ left_refusal names (p ∷ ps) = or_else (refuse (is_none (place_named p.name nam
 abbrev pub names_refusal : List HandedPort → ℕ → Option (List (List ℕ)) → Option ScriptError
 names_refusal ports n None = Some (Line n)
 names_refusal ports n (Some names) = or_else (first_refusal (name_refusal ports n) [] names) (left_refusal names ports)
-
-abbrev pub is_both : Port → Bool
-is_both port.Both = true
-is_both _ = false
 
 -- the level of a character, for a port of this direction; an Input port takes no Z
 abbrev pub level_of : Port → ℕ → Option Level

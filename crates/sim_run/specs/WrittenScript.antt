@@ -8,8 +8,9 @@ use Rattle.mig_base.specs.declared.nets.Port.{Port}
 use Rattle.mig_base.specs.WrittenBoard.{written_line, IsWritable}
 use Rattle.sim_run.specs.declared.handed.HandedPort.{HandedPort}
 use Rattle.mig_base.specs.declared.scripts.Script.{Script}
-use Rattle.sim_run.specs.ScriptText.{ports_of, is_both, most_steps}
+use Rattle.sim_run.specs.ScriptText.{ports_of, most_steps}
 use Rattle.mig_base.specs.Levels.{level_code}
+use Rattle.mig_base.specs.BoardText.{is_both}
 
 -- the word `step` and a word of the levels; the first alone where there are none
 abbrev pub step_line : List Level → List (List ℕ)

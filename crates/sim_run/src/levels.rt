@@ -1,5 +1,6 @@
 ghost use Rattle.std.specs.Prelude.{◌≡◌, Option, is_none, IfOk};
 ghost use Rattle.std.specs.List.{list_any, filter_map};
+ghost use Rattle.mig_base.specs.BoardText.{is_both as is_both_port};
 ghost use Rattle.sim_run.specs.ScriptText as spec;
 ghost use Rattle.sim_run.specs.Statements.{slot_level};
 
@@ -51,7 +52,7 @@ fn level_of(port: Port, byte: u8) -> Option<Level>
 }
 
 fn is_both(port: Port) -> bool
-    ensures { result ≡ spec.is_both port }
+    ensures { result ≡ is_both_port port }
 {
     match port {
         Port::Both => true,

@@ -2,20 +2,7 @@
 use Rattle.std.proofs.Common.{◌≡◌, Bool, true, false, ◌&&◌, List, [], ◌∷◌, ◌++◌, refl, sym, ap, ◌∙◌}
 use Rattle.std.specs.List.{list_all}
 use Rattle.std.proofs.lemmas.Bool.{and_parts, and_from}
-use Rattle.std.proofs.lemmas.List.Folds.{list_all-append, list_all-map}
-use Rattle.mig_base.specs.declared.circuit.Read.{Read}
-use Rattle.mig_base.specs.declared.circuit.Literal.{Literal}
-use Rattle.mig_base.specs.Values.{product_reads, sum_reads}
-
-pub all-product : (p : Read → Bool) (lits : List Literal) → list_all p (product_reads lits) ≡ list_all (λ literal. p literal.source) lits
-all-product p lits = list_all-map p (λ (literal : Literal). literal.source) lits
-
-pub all-sum : (p : Read → Bool) (terms : List (List Literal)) → list_all p (sum_reads terms) ≡ list_all (λ term. list_all (λ literal. p literal.source) term) terms
-all-sum p [] = refl
-all-sum p (t ∷ ts) =
-    list_all-append p (product_reads t) (sum_reads ts)
-    ∙ ap (λ (b : Bool). b && list_all p (sum_reads ts)) (all-product p t)
-    ∙ ap (λ (b : Bool). list_all (λ (literal : Literal). p literal.source) t && b) (all-sum p ts)
+use Rattle.std.proofs.lemmas.List.Folds.{list_all-append}
 
 -- a test of one list and then of another
 pub both-pass : {T : Type 0} (p : T → Bool) (xs ys : List T) (b : Bool) → list_all p xs ≡ true → b ≡ list_all p ys → b ≡ list_all p (xs ++ ys)

@@ -15,7 +15,8 @@ use Rattle.mig_base.specs.declared.circuit.Circuit.{Circuit}
 use Rattle.mig_base.specs.Reads.{wire_reads, edge_reads}
 use Rattle.structure.specs.declared.sets.NodeSet.{NodeSet}
 use Rattle.structure.specs.NodeSets.{contains, every_node, trues}
-use Rattle.structure.specs.Pure.{is_pulled, always_enabled, pure_driven, pure_kind, net_rule, register_rule, pure_rule, IsPure, IsPurity}
+use Rattle.mig_base.specs.WrittenBoard.{is_pulled}
+use Rattle.structure.specs.Pure.{always_enabled, pure_driven, pure_kind, net_rule, register_rule, pure_rule, IsPure, IsPurity}
 use Rattle.structure.specs.Sweeps.{IsAbove, KeepsRule, size}
 use Rattle.structure.proofs.Passing.{all-weaker}
 

@@ -1,5 +1,5 @@
 -- The products of a unit's parts, over the variables of its board.
-use Rattle.std.specs.Prelude.{ℕ, List, [], ◌∷◌, map, Option, Some, None, slice_get, slice_index}
+use Rattle.std.specs.Prelude.{ℕ, List, [], ◌∷◌, map, Option, Some, None, slice_get, slice_index_or}
 use Rattle.mig_base.specs.declared.plans.Part.{Part}
 use Rattle.mig_base.specs.declared.plans.Part.TheVariants.{Logic, Enable, Reset, Preset}
 use Rattle.mig_base.specs.declared.nets.Var.{Var}
@@ -20,12 +20,12 @@ use Rattle.mig_base.specs.Structure.{variable_product}
 use Rattle.structure.specs.declared.products.UnitProducts.{UnitProducts}
 
 -- a variable as others name it: a register by the number of its unit, where the units of the registers are these
-abbrev pub var_of : List ℕ → Read → Var
-var_of units (OfNet n) = Net n
-var_of units (OfRegister k) = Reg (slice_index units k)
+abbrev pub var_by : List ℕ → Read → Var
+var_by units (OfNet n) = Net n
+var_by units (OfRegister k) = Reg (slice_index_or units k 0)
 
 abbrev pub var_lit : List ℕ → Literal → VarLit
-var_lit units x = record { var = var_of units x.source; high = x.high }
+var_lit units x = record { var = var_by units x.source; high = x.high }
 
 -- a product over variables
 abbrev pub product_over : Circuit → List ℕ → List Literal → VarProduct

@@ -1,8 +1,6 @@
 -- Pure nodes: nets and registers that are always 0 or 1.
 use Rattle.std.specs.Prelude.{ℕ, ◌≡◌, ◌&&◌, ◌||◌, Bool, true, false, List, [], ◌∷◌, length, Option, Some, None, slice_get}
 use Rattle.std.specs.List.{list_all}
-use Rattle.mig_base.specs.declared.nets.Pull.{Pull}
-use Rattle.mig_base.specs.declared.nets.Pull.TheVariants.{Free, Up, Down}
 use Rattle.mig_base.specs.declared.circuit.Read.{Read}
 use Rattle.mig_base.specs.declared.circuit.Read.TheVariants.{OfNet, OfRegister}
 use Rattle.mig_base.specs.declared.circuit.Gate.{Gate}
@@ -14,14 +12,9 @@ use Rattle.mig_base.specs.declared.circuit.NetKind.TheVariants.{Ground, Power, H
 use Rattle.mig_base.specs.declared.circuit.Wire.{Wire}
 use Rattle.mig_base.specs.declared.circuit.Circuit.{Circuit}
 use Rattle.mig_base.specs.Reads.{wire_reads, edge_reads}
+use Rattle.mig_base.specs.WrittenBoard.{is_pulled}
 use Rattle.structure.specs.declared.sets.NodeSet.{NodeSet}
 use Rattle.structure.specs.NodeSets.{contains}
-
--- whether a resistor pulls a net
-abbrev pub is_pulled : Pull → Bool
-is_pulled Free = false
-is_pulled Up = true
-is_pulled Down = true
 
 -- a row without literals is 1 whatever stands on the nets
 abbrev pub is_always : Gate → Bool

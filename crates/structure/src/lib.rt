@@ -22,4 +22,5 @@ pub use liveness::live_of;
 pub use products::{UnitProducts, products_of, unit_of};
 pub use purity::purity_of;
 pub use sets::{NodeSet, flag_at};
+pub use sorted::variable_product;
 pub use variables::all_variables;

@@ -1,7 +1,8 @@
 ghost use Rattle.std.specs.Prelude.{◌≡◌, ◌<◌, true, false, Some, slice_get, IfOk};
 ghost use Rattle.mig_base.specs.declared.circuit.Read.TheVariants.{OfNet, OfRegister};
 ghost use Rattle.structure.specs.NodeSets.{contains};
-ghost use Rattle.structure.specs.Pure.{is_pulled as pulls, is_always as always, always_enabled as enabled_always, pure_driven, pure_wire, IsPurity};
+ghost use Rattle.mig_base.specs.WrittenBoard.{is_pulled as pulls};
+ghost use Rattle.structure.specs.Pure.{is_always as always, always_enabled as enabled_always, pure_driven, pure_wire, IsPurity};
 ghost use Rattle.structure.specs.Sweeps.{IsAbove, IsKept, size, KeepsNets, KeepsRegisters, KeepsRule};
 
 use crate::reading::{has_driver, has_register};

@@ -5,8 +5,6 @@ use Rattle.std.specs.Str.{bytes_eq}
 use Rattle.mig_base.specs.declared.cells.ChipCells.{ChipCells}
 use Rattle.mig_base.specs.declared.nets.Net.{Net}
 use Rattle.mig_base.specs.declared.nets.ChipLine.{ChipLine}
-use Rattle.mig_base.specs.declared.nets.Port.{Port}
-use Rattle.mig_base.specs.declared.nets.Port.TheVariants.{Both}
 use Rattle.mig_base.specs.declared.nets.Pull.{Pull}
 use Rattle.mig_base.specs.declared.nets.Pull.TheVariants.{Free}
 use Rattle.mig_base.specs.declared.circuit.Read.{Read}
@@ -23,6 +21,7 @@ use Rattle.mig_base.specs.DeviceTables.{is_pal16}
 use Rattle.mig_base.specs.Values.{row_reads, sum_reads}
 use Rattle.mig_base.specs.Accepted.{is_fixed}
 use Rattle.mig_base.specs.Boards.{circuit}
+use Rattle.mig_base.specs.BoardText.{is_both}
 use Rattle.mig_base.specs.Given.{AreMade}
 use Rattle.mig_base.specs.WrittenBoard.{are_distinct}
 
@@ -33,10 +32,6 @@ is_free _ = false
 -- the wiring of PAL16 chips, without pulls
 abbrev pub is_taken_wiring : Net → Bool
 is_taken_wiring net = list_all (λ c. is_pal16 c.kind) net.chips && list_all (λ l. is_free l.pull) net.nets
-
-abbrev pub is_both : Port → Bool
-is_both Both = true
-is_both _ = false
 
 -- no Input port and no constant net has a driver, and no net two
 abbrev pub has_few_drivers : Wire → Bool

@@ -1,7 +1,8 @@
 ghost use Rattle.std.specs.Prelude.{◌≡◌, not};
 ghost use Rattle.std.specs.List.{list_all};
 ghost use Rattle.mig_base.specs.DeviceTables.{is_pal16 as is_pal16_kind};
-ghost use Rattle.taken_boards.specs.TakenBoards.{is_taken_wiring as taken_wiring, are_taken_ports as taken_ports, is_free, is_both};
+ghost use Rattle.taken_boards.specs.TakenBoards.{is_taken_wiring as taken_wiring, are_taken_ports as taken_ports, is_free};
+ghost use Rattle.mig_base.specs.BoardText.{is_both};
 
 use mig_base::{ChipLine, Kind, Net, NetLine, Port, Pull};
 

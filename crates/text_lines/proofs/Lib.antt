@@ -5,3 +5,4 @@ pub mod Judging
 pub mod Places
 pub mod WrittenLines
 pub mod Numerals
+pub mod PlainWords

@@ -3,8 +3,7 @@ use Rattle.std.proofs.Common.{ℕ, suc, ◌≡◌, ◌+◌, ◌-◌, ◌<◌, �
 use Rattle.std.specs.Prelude.{filter}
 use Rattle.std.specs.List.{slice_split, onto_first, position, position_or_len}
 use Rattle.std.proofs.lemmas.Bool.{ne_eqb, ltb-true, lt-ltb, eqb-true, and_parts, ltb-false}
-use Rattle.std.proofs.Math.Seq.{take-length}
-use Rattle.std.proofs.lemmas.List.{drop_more, drop_all, length-drop}
+use Rattle.std.proofs.lemmas.List.{drop_more, drop_all}
 use Rattle.std.proofs.lemmas.List.Splits.{slice_split_first, length-slice_split}
 use Rattle.mig_base.specs.Lines.{without_cr, is_empty, is_gap, words_of, is_comment, TextLine, lines_from, ended_lines}
 use Rattle.text_lines.specs.Statements.{lines_behind, line_here}
@@ -77,10 +76,6 @@ line-whole bytes h read = at (ltb (position_or_len is_lf bytes) (length bytes)) 
         lines_behind read bytes ≡ line_here (read + 1) bytes ++ lines_behind (read + 1) []
     at true e k = absurd (let no : ⊥ = cc in no)
     at false e k = ap (λ (ps : List (List ℕ)). lines_from (read + 1) (ended_lines ps)) (whole-part is_lf bytes (ltb-false _ _ e))
-
--- what stands behind a place, to its end
-pub rest-of : (bytes : List ℕ) (k : ℕ) → take (length bytes - k) (drop k bytes) ≡ drop k bytes
-rest-of bytes k = let e : length bytes - k ≡ length (drop k bytes) = omega (arith, length-drop k bytes) in ap (λ (n : ℕ). take n (drop k bytes)) e ∙ take-length (drop k bytes)
 
 -- a line that doesn't count, and one that does
 pub line-passed : (n : ℕ) (line : List ℕ) → is_comment (words_of line) ≡ true → (rest : List TextLine) → line_here n line ++ rest ≡ rest

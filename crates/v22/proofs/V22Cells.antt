@@ -1,11 +1,10 @@
 -- A macrocell of a GAL22V10 is made again by its own settings and rows, and its rows fit its array.
-use Rattle.std.proofs.Common.{ℕ, suc, ◌≡◌, ◌+◌, ◌-◌, ◌<◌, ◌≤◌, Bool, true, false, not, ◌||◌, if◌then◌else◌, List, [], ◌∷◌, ◌++◌, map, replicate, reverse, length, refl, sym, ap, ◌∙◌, subst, arith, IsTrue, Ok}
-use Rattle.std.specs.Prelude.{◌==◌}
+use Rattle.std.proofs.Common.{ℕ, suc, ◌≡◌, ◌+◌, ◌-◌, ◌<◌, ◌≤◌, Bool, true, false, not, ◌||◌, if◌then◌else◌, List, [], ◌∷◌, ◌++◌, map, replicate, length, sym, ap, ◌∙◌, subst, arith}
 use Rattle.std.specs.List.{AllByRecursion}
 use Rattle.std.proofs.lemmas.List.{length-append, length-map}
-use Rattle.std.proofs.lemmas.Bool.{lt-ltb}
+use Rattle.std.proofs.lemmas.Bool.{lt-ltb, not-true}
+use Rattle.std.proofs.Math.Bool.{not-not}
 use Rattle.mig_base.specs.declared.kinds.Kind.{Kind}
-use Rattle.mig_base.specs.declared.kinds.Kind.TheVariants.{Gal22V10, Gal22V10Q}
 use Rattle.mig_base.specs.declared.kinds.Mode.TheVariants.{Fixed}
 use Rattle.mig_base.specs.declared.cells.Lit.{Lit}
 use Rattle.mig_base.specs.declared.cells.Row.{Row}
@@ -15,12 +14,11 @@ use Rattle.mig_base.specs.declared.cells.Enable.TheVariants as enable
 use Rattle.mig_base.specs.declared.cells.Form.{Form}
 use Rattle.mig_base.specs.declared.cells.Form.TheVariants as form
 use Rattle.mig_base.specs.declared.cells.Cell.{Cell}
-use Rattle.mig_base.specs.First.{made_from}
-use Rattle.mig_base.specs.DeviceTables.{pair_pins, columns_22, cell_pins, enable_pin, rows_22, has_count, even_reads_q, is_22, is_v8, is_gal}
+use Rattle.mig_base.specs.DeviceTables.{enable_pin, rows_22, is_22, is_v8, is_gal}
 use Rattle.mig_base.specs.Cells as cells
 use Rattle.mig_base.specs.WellFormed.{is_never, has_enable_row, is_low_pin, FitsCell, has_enable, has_inversions, most_terms, fits_row, fits_control}
 use Rattle.mig_base.specs.WrittenCells.{enable_rows, cell_rows}
-use Rattle.mig_base.proofs.ListLaws.{and-left, and-right, not-true, not-twice, all-append}
+use Rattle.mig_base.proofs.ListLaws.{and-left, and-right, all-append}
 use Rattle.devices.proofs.RowLaws.{FitsColumns}
 use Rattle.devices.proofs.V22Tables.{IsV22Table}
 use Rattle.devices.proofs.MacrocellLaws.{cell_with, idle-is, comb-terms, terms-read, one-enable, filled-long, own_rows, never-fits, terms-fit, enable-row-fits, never-row-fits}
@@ -48,7 +46,7 @@ comb-again n pin low columns (enable.Term (l ∷ ls)) terms h = comb-terms pin l
 reg-terms : (pin : ℕ) (pin_low : Bool) (e : Enable) (terms : List (List Lit)) (n : ℕ) →
     cell_with pin form.Reg false (not (not pin_low)) e (cells.terms_of (term_rows terms ++ replicate n row.Never)) ≡ cell_with pin form.Reg false pin_low e terms
 reg-terms pin pin_low e terms n =
-    ap (λ (b : Bool). cell_with pin form.Reg false b e (cells.terms_of (term_rows terms ++ replicate n row.Never))) (not-twice pin_low)
+    ap (λ (b : Bool). cell_with pin form.Reg false b e (cells.terms_of (term_rows terms ++ replicate n row.Never))) (not-not pin_low)
     ∙ ap (cell_with pin form.Reg false pin_low e) (terms-read terms n)
 
 reg-again : (n pin : ℕ) (pin_low : Bool) (columns : List Lit) (e : Enable) (terms : List (List Lit)) → (is_never e || has_enable_row columns e) ≡ true →

@@ -2,12 +2,12 @@
 use Rattle.std.proofs.Common.{ℕ, ◌≡◌, ◌+◌, ◌-◌, ◌*◌, ◌≤◌, Bool, true, false, ◌&&◌, List, [], ◌∷◌, ◌++◌, map, take, drop, length, get_or, sym, ap, ◌∙◌, subst, arith, eqb}
 use Rattle.std.specs.List.{AllByRecursion, flat_map}
 use Rattle.std.proofs.lemmas.List.{append_assoc, take_at, drop_at, length-append}
-use Rattle.std.proofs.lemmas.Bool.{eqb-true}
+use Rattle.std.proofs.lemmas.Bool.{eqb-true, and_parts}
 use Rattle.mig_base.specs.declared.kinds.Mode.TheVariants.{Fixed}
 use Rattle.mig_base.specs.declared.cells.Row.{Row}
 use Rattle.mig_base.specs.declared.cells.Cell.{Cell}
 use Rattle.mig_base.specs.DeviceTables.{rows_22}
-use Rattle.mig_base.proofs.ListLaws.{and-true, skip}
+use Rattle.mig_base.proofs.ListLaws.{skip}
 use Rattle.mig_base.specs.Written22.{row_count, rows_of_cell, s0_fuse, s1_fuse, settings}
 
 abbrev pub cell_pin : Cell → ℕ
@@ -43,7 +43,7 @@ pub rows-placed : (xs : List Cell) (before rest : List Row) (n : ℕ) → length
     AllByRecursion (HasRows (before ++ (flat_map (rows_of_cell Fixed) xs ++ rest))) xs
 rows-placed [] before rest n e h k = tt
 rows-placed (x ∷ xs) before rest n e h k =
-    let both = and-true (eqb (rows_22 x.pin).0 n) (are_in_rows (n + row_count x.pin) (map cell_pin xs)) h in
+    let both = and_parts (eqb (rows_22 x.pin).0 n) (are_in_rows (n + row_count x.pin) (map cell_pin xs)) h in
     let first : (rows_22 x.pin).0 ≡ n = eqb-true (rows_22 x.pin).0 n both.0 in
     let own = rows_of_cell Fixed x in
     let tail = flat_map (rows_of_cell Fixed) xs ++ rest in
@@ -76,7 +76,7 @@ pub settings-placed : (xs : List Cell) (before rest : List Bool) (n : ℕ) → l
     AllByRecursion (HasSettings (before ++ (flat_map settings xs ++ rest))) xs
 settings-placed [] before rest n e h = tt
 settings-placed (x ∷ xs) before rest n e h =
-    let both = and-true (eqb (23 - x.pin) n) (are_in_order (n + 1) (map cell_pin xs)) h in
+    let both = and_parts (eqb (23 - x.pin) n) (are_in_order (n + 1) (map cell_pin xs)) h in
     let place : 23 - x.pin ≡ n = eqb-true (23 - x.pin) n both.0 in
     let tail = flat_map settings xs ++ rest in
     let all = before ++ (s0_fuse x ∷ s1_fuse x ∷ tail) in

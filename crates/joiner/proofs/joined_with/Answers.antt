@@ -1,8 +1,8 @@
 use Rattle.std.proofs.Common.{◌≡◌, ◌≤◌, refl, sym, ◌∙◌, ap, subst, List, length, arith}
 use Rattle.bdd.specs.Diagram.{function_of}
 use Rattle.mig_base.specs.declared.nets.VarProduct.{VarProduct}
+use Rattle.mig_base.proofs.ListLaws.{length-made_from}
 use Rattle.board.specs.Joined.{equations_of}
-use Rattle.board.proofs.ListSteps.{made-length}
 use Rattle.joiner.specs.AbsorbedNets.{AreOver}
 use Rattle.joiner.specs.Joined.{Inverted, unit_part}
 use Rattle.joiner.specs.Marked.{needed_at}
@@ -39,7 +39,7 @@ joined_nets-requires-clause-absorbable c =
 
 pub joined_nets-requires-clause-nets : goal.joined_nets-requires-clause-nets
 joined_nets-requires-clause-nets c =
-    ap length (c.as_slice-2.ensures.value ∙ c.in_ok-needed.ensures) ∙ made-length (needed_at c.args.nets.now c.in_ok-marks.marks) 0 (length (equations_of c.args.board.now).nets)
+    ap length (c.as_slice-2.ensures.value ∙ c.in_ok-needed.ensures) ∙ length-made_from (needed_at c.args.nets.now c.in_ok-marks.marks) 0 (length (equations_of c.args.board.now).nets)
 
 pub inverted_sum-requires-clause-known : goal.inverted_sum-requires-clause-known
 inverted_sum-requires-clause-known c =

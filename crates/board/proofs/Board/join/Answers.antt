@@ -8,7 +8,7 @@ use Rattle.mig_base.specs.Given.{IsGiven}
 use Rattle.structure.specs.Derived.{IsStructure}
 use Rattle.board.specs.Built.{IsBuilt, IsTables}
 use Rattle.board.specs.UnitLists.{register_units}
-use Rattle.board.specs.Variables.{var_by}
+use Rattle.structure.specs.Products.{var_by}
 use Rattle.board.proofs.AcceptedLaws.{equations-few}
 use Rattle.board.proofs.GivenLaws.{given-small}
 use Rattle.board.proofs.BoardLaws.{equations-accepted}

@@ -1,5 +1,6 @@
 use Rattle.std.proofs.Common.{ℕ, List, sym, ap, subst, ◌∙◌}
-use Rattle.board.specs.Variables.{IsVariable, read_of, var_by}
+use Rattle.structure.specs.Products.{var_by}
+use Rattle.board.specs.Variables.{IsVariable, read_of}
 use Rattle.board.proofs.BoardLaws.{holds, var-variable, var-back}
 use Rattle.board.proofs.Board.var.Goals as goal
 

@@ -1,5 +1,5 @@
 use Rattle.std.proofs.Common.{◌≡◌, ◌++◌, map, drop}
-use Rattle.board.specs.Variables.{var_by}
+use Rattle.structure.specs.Products.{var_by}
 use Rattle.board.proofs.by_rank.variables_by_rank.Given as goal
 
 abbrev pub invariant-loop-node : goal.invariant-loop-node

@@ -1,15 +1,9 @@
-use Rattle.std.proofs.Common.{ℕ, ◌≡◌, ◌⊎◌, List, [], ◌∷◌, ◌++◌, get_or, take, sym, subst, inl, inr}
+use Rattle.std.proofs.Common.{ℕ, get_or, take, subst}
 use Rattle.std.proofs.lemmas.List.{take_more}
 use Rattle.mig_base.specs.Among.{Among}
-use Rattle.structure.proofs.NeededNodes.{among-at, among-last}
+use Rattle.mig_base.proofs.Amongs.{apart-push}
+use Rattle.structure.proofs.NeededNodes.{among-at}
 use Rattle.board.proofs.driven.has_number.Goals as goal
-
-apart : (n other : ℕ) (before : List ℕ) → (Among n before → ⊥) → (other ≡ n → ⊥) → Among n (before ++ other ∷ []) → ⊥
-apart n other before new ne a = at (among-last n other before a)
-  where
-    at : Among n before ⊎ (n ≡ other) → ⊥
-    at (inl b) = new b
-    at (inr e) = ne (sym e)
 
 pub returns-then-other-number-clause-yes : goal.returns-then-other-number-clause-yes
 returns-then-other-number-clause-yes c = λ _.
@@ -20,4 +14,4 @@ pub loop-other-preserved : goal.loop-other-preserved
 loop-other-preserved c = λ a.
     let numbers = c.args.numbers.now in
     let i = c.loop-other.other-index in
-    apart c.args.number (get_or numbers i 0) (take i numbers) c.loop-other.invariant c.if-other-number.false (subst (Among c.args.number) (take_more numbers i 0 c.loop-other-test.true) a)
+    apart-push c.args.number (get_or numbers i 0) (take i numbers) c.loop-other.invariant c.if-other-number.false (subst (Among c.args.number) (take_more numbers i 0 c.loop-other-test.true) a)

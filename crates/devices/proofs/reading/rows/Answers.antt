@@ -2,7 +2,7 @@ use Rattle.std.proofs.Common.{◌≡◌, ◌+◌, ◌-◌, ◌++◌, ◌∷◌, 
 use Rattle.mig_base.specs.declared.cells.Row.{Row}
 use Rattle.mig_base.specs.First.{made_from}
 use Rattle.mig_base.specs.Cells.{row_at, row_of}
-use Rattle.devices.proofs.RowLemmas.{made_from-more}
+use Rattle.mig_base.proofs.ListLaws.{made_from-more}
 use Rattle.devices.proofs.reading.rows.Goals as goal
 
 pub loop-r-preserved : goal.loop-r-preserved

@@ -1,6 +1,7 @@
 use Rattle.std.proofs.Common.{◌+◌, ◌∙◌, sym, ap, arith, take, List, ℕ, Some}
-use Rattle.jed_text.proofs.Cuts.{cut-here, cut_at-none, rest-of, lacks-whole}
+use Rattle.jed_text.proofs.Cuts.{cut-here, cut_at-none, lacks-whole}
 use Rattle.std.proofs.lemmas.Bool.{eq-eqb}
+use Rattle.mig_base.proofs.ListLaws.{rest-of}
 use Rattle.jed_text.proofs.cut.cut_at.Goals as goal
 
 pub returns-then-b-byte-clause-parts : goal.returns-then-b-byte-clause-parts

@@ -6,13 +6,13 @@ use Rattle.mig_base.specs.declared.circuit.Read.TheVariants.{OfNet}
 use Rattle.mig_base.specs.declared.nets.Var.{Var}
 use Rattle.mig_base.specs.Reads.{IsNode}
 use Rattle.mig_base.proofs.Amongs.{among-all}
-use Rattle.rails.proofs.ComposeLemmas.{keeps_trans, keeps_refl}
 use Rattle.board.specs.Joined.{equations_of}
 use Rattle.joiner.specs.Pairs.{IsProperPair, AreProper, ReadsPair, IsJoinedNode}
 use Rattle.joiner.proofs.PairLaws.{fit_kept}
 use Rattle.joiner.proofs.JoiningLaws.{HasPairsOf, none_holds, item_among, proper_more, read_more, has_more, has_all, count_more}
 use Rattle.joiner.proofs.nets.joined_nets.Goals as goal
 use Rattle.joiner.proofs.nets.joined_nets.Goals.{In-loop-node}
+use Rattle.bdd.proofs.GraphLemmas.{keeps_trans, keeps_refl}
 
 abbrev node : In-loop-node → Read
 node c = get_or c.args.order.now c.loop-node.node-index (OfNet 0)

@@ -5,12 +5,12 @@ use Rattle.mig_base.specs.declared.nets.Var.TheVariants.{Net}
 use Rattle.mig_base.specs.declared.nets.VarLit.{VarLit}
 use Rattle.rails.specs.Variables.{all_rails}
 use Rattle.rails.specs.Points.{row_holds}
-use Rattle.rails.proofs.ComposeLemmas.{keeps_trans}
 use Rattle.rails.proofs.ProductLemmas.{all_more}
 use Rattle.joiner.specs.Joined.{literal_read}
 use Rattle.joiner.specs.Pairs.{is_known, Reads}
 use Rattle.joiner.proofs.PairLaws.{each_passes, fit_kept, pairs_kept, pairs_kept_in, reads_kept, reads_both, reads_constant}
 use Rattle.joiner.proofs.sums.product.Goals as goal
+use Rattle.bdd.proofs.GraphLemmas.{keeps_trans}
 
 abbrev first : VarLit
 first = record { var = Net 0; high = false }

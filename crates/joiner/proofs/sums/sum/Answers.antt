@@ -3,12 +3,12 @@ use Rattle.std.specs.List.{list_all}
 use Rattle.mig_base.specs.declared.nets.Var.{Var}
 use Rattle.mig_base.specs.declared.nets.VarLit.{VarLit}
 use Rattle.mig_base.specs.declared.nets.VarProduct.{VarProduct}
-use Rattle.rails.proofs.ComposeLemmas.{keeps_trans}
 use Rattle.rails.proofs.ProductLemmas.{any_more}
 use Rattle.joiner.specs.Joined.{literal_read, product_read, terms_read}
 use Rattle.joiner.specs.Pairs.{Reads}
 use Rattle.joiner.proofs.PairLaws.{pairs_kept, reads_kept, reads_either}
 use Rattle.joiner.proofs.sums.sum.Goals as goal
+use Rattle.bdd.proofs.GraphLemmas.{keeps_trans}
 
 pub loop-term-preserved : goal.loop-term-preserved
 loop-term-preserved c =

@@ -5,10 +5,10 @@ use Rattle.rails.specs.declared.Side.TheVariants.{Pure}
 use Rattle.rails.specs.declared.Rail.{Rail}
 use Rattle.rails.specs.Points.{mirror}
 use Rattle.rails.specs.Compose.{AreImages}
-use Rattle.rails.proofs.ComposeLemmas.{keeps_trans}
 use Rattle.rails.proofs.ImageLemmas.{images_kept, images_push, is_mirror, within}
 use Rattle.rails.proofs.changes.mirror_images.Goals as goal
 use Rattle.rails.proofs.changes.mirror_images.Goals.{In-loop-place}
+use Rattle.bdd.proofs.GraphLemmas.{keeps_trans}
 
 -- the Boolean at the place
 abbrev here : In-loop-place → Rail

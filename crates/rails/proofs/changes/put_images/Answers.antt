@@ -3,11 +3,12 @@ use Rattle.std.proofs.lemmas.Option.{slice_get-get_or}
 use Rattle.mig_base.specs.declared.nets.Var.TheVariants.{Net}
 use Rattle.bdd.specs.Tree.{Point}
 use Rattle.bdd.specs.Diagram.{function_of}
+use Rattle.bdd.proofs.GraphLemmas.{keeps_trans}
 use Rattle.rails.specs.declared.Side.TheVariants.{Pure}
 use Rattle.rails.specs.declared.Rail.{Rail}
 use Rattle.rails.specs.Points.{put, put_at, Is}
 use Rattle.rails.specs.Compose.{AreImages}
-use Rattle.rails.proofs.ComposeLemmas.{keeps_trans, function_kept}
+use Rattle.rails.proofs.ComposeLemmas.{function_kept}
 use Rattle.rails.proofs.ImageLemmas.{images_kept, images_push, is_put}
 use Rattle.rails.proofs.changes.put_images.Goals as goal
 use Rattle.rails.proofs.changes.put_images.Goals.{In-loop-place, In_ok-image}

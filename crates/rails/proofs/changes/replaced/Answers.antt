@@ -3,9 +3,10 @@ use Rattle.std.proofs.lemmas.Result.{IfOk-weaker}
 use Rattle.bdd.specs.Tree.{Point}
 use Rattle.bdd.specs.Diagram.{function_of, Keeps}
 use Rattle.bdd.specs.declared.Ref.{Ref}
+use Rattle.bdd.proofs.GraphLemmas.{keeps_trans}
 use Rattle.rails.specs.Points.{put}
 use Rattle.rails.specs.Compose.{AllValid, IsComposed}
-use Rattle.rails.proofs.ComposeLemmas.{table_empty, keeps_trans}
+use Rattle.rails.proofs.ComposeLemmas.{table_empty}
 use Rattle.rails.proofs.ImageLemmas.{images_valid}
 use Rattle.rails.proofs.ChangeLemmas.{replacement_is}
 use Rattle.rails.proofs.changes.replaced.Goals as goal

@@ -1,8 +1,9 @@
 use Rattle.std.proofs.Common.{◌≡◌, ◌<◌, ℕ, arith, sym, ◌∙◌, ap, slice_get, get_or, Some, length}
 use Rattle.std.proofs.lemmas.Option.{slice_get-get_or}
 use Rattle.bdd.specs.Diagram.{Keeps, tree}
+use Rattle.bdd.proofs.GraphLemmas.{keeps_trans}
 use Rattle.rails.specs.Compose.{IsComposed, IsTrueTable, height}
-use Rattle.rails.proofs.ComposeLemmas.{keeps_trans, table_same, entry_after, all_valid_kept, table_kept, table_grown, composed_choice, height_high, height_low, valid_at}
+use Rattle.rails.proofs.ComposeLemmas.{table_same, entry_after, all_valid_kept, table_kept, table_grown, composed_choice, height_high, height_low, valid_at}
 use Rattle.rails.proofs.composing.+compose.Goals as goal
 use Rattle.rails.proofs.composing.+compose.Goals.{After-ite, In_ok-r}
 

@@ -4,10 +4,10 @@ use Rattle.mig_base.specs.declared.nets.Var.TheVariants.{Net}
 use Rattle.rails.specs.declared.Side.TheVariants.{Pure}
 use Rattle.rails.specs.declared.Rail.{Rail}
 use Rattle.rails.specs.Points.{carries}
-use Rattle.rails.proofs.ComposeLemmas.{keeps_trans}
 use Rattle.rails.proofs.ProductLemmas.{passed, found, carried_on, not_past}
 use Rattle.rails.proofs.products.literal.Goals as goal
 use Rattle.rails.proofs.products.literal.Goals.{In-loop-place}
+use Rattle.bdd.proofs.GraphLemmas.{keeps_trans}
 
 abbrev first : Rail
 first = record { var = Net 0; variable = 0; side = Pure }

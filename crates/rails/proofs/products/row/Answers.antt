@@ -2,9 +2,9 @@ use Rattle.std.proofs.Common.{◌+◌, ◌∙◌, subst, get_or, take, take_all,
 use Rattle.mig_base.specs.declared.nets.Var.TheVariants.{Net}
 use Rattle.mig_base.specs.declared.nets.VarLit.{VarLit}
 use Rattle.rails.specs.Points.{row_holds, literal_holds, Is}
-use Rattle.rails.proofs.ComposeLemmas.{keeps_trans, keeps_refl}
 use Rattle.rails.proofs.ProductLemmas.{all_more, factor_more, constant_is}
 use Rattle.rails.proofs.products.row.Goals as goal
+use Rattle.bdd.proofs.GraphLemmas.{keeps_trans, keeps_refl}
 
 abbrev first : VarLit
 first = record { var = Net 0; high = false }

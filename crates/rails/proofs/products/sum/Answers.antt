@@ -2,9 +2,9 @@ use Rattle.std.proofs.Common.{◌+◌, ◌∙◌, ap, subst, get_or, take, take_
 use Rattle.mig_base.specs.declared.nets.VarLit.{VarLit}
 use Rattle.mig_base.specs.declared.nets.VarProduct.{VarProduct}
 use Rattle.rails.specs.Points.{row_holds, sum_holds, Is}
-use Rattle.rails.proofs.ComposeLemmas.{keeps_trans, keeps_refl}
 use Rattle.rails.proofs.ProductLemmas.{any_more, summand_more, constant_is}
 use Rattle.rails.proofs.products.sum.Goals as goal
+use Rattle.bdd.proofs.GraphLemmas.{keeps_trans, keeps_refl}
 
 pub loop-product-init : goal.loop-product-init
 loop-product-init c = record {

@@ -1,5 +1,5 @@
 use Rattle.mig_base.specs.declared.circuit.Read.TheVariants.{OfNet}
-use Rattle.structure.proofs.Numbered.{made-push}
+use Rattle.mig_base.proofs.ListLaws.{made-push}
 use Rattle.structure.proofs.variables.push_nets.Goals as goal
 
 pub loop-net-preserved : goal.loop-net-preserved

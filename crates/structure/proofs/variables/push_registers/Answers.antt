@@ -1,5 +1,5 @@
 use Rattle.mig_base.specs.declared.circuit.Read.TheVariants.{OfRegister}
-use Rattle.structure.proofs.Numbered.{made-push}
+use Rattle.mig_base.proofs.ListLaws.{made-push}
 use Rattle.structure.proofs.variables.push_registers.Goals as goal
 
 pub loop-register-preserved : goal.loop-register-preserved

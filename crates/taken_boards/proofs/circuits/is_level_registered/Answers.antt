@@ -1,6 +1,6 @@
 use Rattle.std.specs.Prelude.{not}
+use Rattle.mig_base.proofs.ReadLaws.{all-sum_reads}
 use Rattle.taken_boards.specs.TakenBoards.{is_combinational_net}
-use Rattle.taken_boards.proofs.ReadLists.{all-sum_reads}
 use Rattle.taken_boards.proofs.circuits.is_level_registered.Goals as goal
 
 pub returns-in-Sum : goal.returns-in-Sum

@@ -1,6 +1,7 @@
 use Rattle.std.proofs.Common.{◌+◌, ◌++◌, ◌∙◌, ap, sym, drop, List, ℕ}
+use Rattle.mig_base.proofs.ListLaws.{rest-of}
 use Rattle.text_lines.specs.Statements.{lines_behind, line_here}
-use Rattle.text_lines.proofs.LineSteps.{line-cut, line-whole, rest-of}
+use Rattle.text_lines.proofs.LineSteps.{line-cut, line-whole}
 use Rattle.text_lines.proofs.lines.cut_line.Goals as goal
 
 pub returns-in-Some-clause-lines : goal.returns-in-Some-clause-lines

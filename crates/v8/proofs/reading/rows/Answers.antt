@@ -2,7 +2,7 @@ use Rattle.std.proofs.Common.{ℕ, ◌≡◌, ◌+◌, ◌-◌, ◌*◌, ◌++�
 use Rattle.mig_base.specs.declared.cells.Row.{Row}
 use Rattle.mig_base.specs.First.{made_from}
 use Rattle.mig_base.specs.DeviceTables.{top_pin}
-use Rattle.devices.proofs.RowLemmas.{made_from-more}
+use Rattle.mig_base.proofs.ListLaws.{made_from-more}
 use Rattle.v8.specs.DisabledRows.{row_over}
 use Rattle.v8.proofs.reading.rows.Goals as goal
 
