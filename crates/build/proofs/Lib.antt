@@ -1,2 +1,1 @@
-pub mod CodeColumns
 pub mod CodeWires

@@ -1,11 +1,9 @@
 //! The new chips, plan and wiring of a board that is rebuilt one for one.
 #![tactic(auto)]
 
-mod new_cells;
 mod new_wires;
 mod old_rows;
 mod one_for_one;
-mod pin_columns;
 mod rebuilding;
 
 pub use rebuilding::rebuild;

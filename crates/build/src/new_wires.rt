@@ -1,58 +1,20 @@
-ghost use Rattle.std.specs.Prelude.{◌≡◌, ◌+◌, ◌-◌, ◌<◌, ◌≤◌, ◌++◌, map, filter, length, not, nat_lt, slice_get, IfOk, OnOk};
+ghost use Rattle.std.specs.Prelude.{◌≡◌, ◌+◌, ◌-◌, ◌<◌, ◌≤◌, ◌++◌, map, filter, length, not, slice_get, IfOk, OnOk};
 ghost use Rattle.std.specs.List.{list_any, filter_map};
-ghost use Rattle.mig_base.specs.DeviceTables.{ordinary_pins as pins_ordinary};
 ghost use Rattle.mig_base.specs.Boards.{places_from, is_port as port_line};
-ghost use Rattle.new_board.specs.InputPins.{input_pins as pins_for_inputs};
-ghost use Rattle.new_board.specs.NewFiles.{wire_at as wire_on, new_wires as wires_on, fitted as fit_on, stands_on as stands, kept_numbers as numbers_kept, number_in as number_among, new_number as number_new, new_chip_line as chip_line_new, new_pins_from, new_net as net_new};
+ghost use Rattle.new_board.specs.NewFiles.{fitted as fit_on, stands_on as stands, kept_numbers as numbers_kept, number_in as number_among, new_number as number_new, new_chip_line as chip_line_new, new_pins_from, new_net as net_new};
 
-use crate::pin_columns::{Columns, pin_net};
-use chip_pins::{ChipNets, Old, PlannedChip, Taken, input_pins};
-use devices::ordinary_pins;
+use avail::{Old, PlannedChip};
 use mig_base::{ChipLine, Items, Net, NetLine, NoMemory, PinLine, Port};
-use new_board::{FittedChip, PinNet};
+use new_board::FittedChip;
+use new_cells::Columns;
 use std::alloc::Global;
-
-/// The line of a pin that stands on this net, if it has one: its net is a constant or a named one.
-fn wire_at(old: &Old, pin: u8, net: Option<u32>) -> Option<PinNet>
-    ensures { result ≡ wire_on old.now pin net }
-{
-    let net = net?;
-    if old.is_public(net) {
-        Some(PinNet { pin, net })
-    } else {
-        None
-    }
-}
-
-/// The pins of a new chip that have a line, rising.
-fn new_wires(alloc: Global, nets: &ChipNets, taken: &[Taken]) -> Result<Items<PinNet>, NoMemory>
-    requires { taken.now ≡ pins_for_inputs nets.now.old.now nets.now.chip.now }
-    ensures { IfOk result (λ wires. wires ≡ wires_on nets.now.old.now nets.now.chip.now) }
-{
-    let chip = nets.chip;
-    let mut wires = Vec::new(alloc);
-    for pin in ordinary_pins(chip.kind) {
-        if let Some(wire) = wire_at(nets.old, *pin, pin_net(nets, taken, *pin)) {
-            wires.push(wire)?;
-        }
-    }
-    Ok(Items::new(wires))
-}
 
 /// A new chip with its units, fitted.
 pub(crate) fn fitted(alloc: Global, old: &Old, chip: &PlannedChip) -> Result<FittedChip, NoMemory>
     ensures { IfOk result (λ made. made ≡ fit_on old.now chip.now) }
 {
-    let nets = ChipNets::new(old, chip);
-    let taken = input_pins(alloc, &nets)?;
-    let wires = new_wires(alloc, &nets, taken.as_slice())?;
-    let columns = Columns::new(alloc, &nets, taken.as_slice())?;
-    let cells = columns.cells(alloc)?;
-    Ok(FittedChip {
-        name: chip.name,
-        cells,
-        wires,
-    })
+    let columns = Columns::new(alloc, old, chip)?;
+    columns.fitted(alloc)
 }
 
 /// Whether a new chip has a pin on a net.

@@ -1,8 +1,8 @@
 ghost use Rattle.std.specs.Prelude.{◌≡◌, Some, slice_get, IfOk};
 ghost use Rattle.mig_base.specs.Structure.{all_variables, variable_gate};
-ghost use Rattle.new_board.specs.OneForOne.{terms_over as terms_of_board, no_rows as without_rows, old_comb, old_reg, old_giving, old_rows as rows_of_unit};
+ghost use Rattle.new_board.specs.OneForOne.{terms_over as terms_of_board, old_comb, old_reg, old_giving, old_rows as rows_of_unit};
 
-use chip_pins::variable_product;
+use avail::{no_rows, variable_product};
 use mig_base::{Circuit, Driver, Gate, Gives, Items, Literal, NoMemory, Read, Register};
 use new_board::PlacedUnit;
 use std::alloc::Global;
@@ -40,21 +40,6 @@ fn gate_over(
             let product = variable_product(alloc, circuit, variables, lits.items())?;
             Ok(Gate::Product(Items::new(product)))
         }
-    }
-}
-
-/// A unit without rows.
-fn no_rows(alloc: Global, pin: u8, unit: u32) -> PlacedUnit
-    ensures { result ≡ without_rows pin unit }
-{
-    PlacedUnit {
-        pin,
-        unit,
-        low: false,
-        terms: Items::new(Vec::new(alloc)),
-        enable: Gate::Never,
-        reset: Gate::Never,
-        preset: Gate::Never,
     }
 }
 

@@ -4,7 +4,7 @@ ghost use Rattle.mig_base.specs.Boards.{ChipUnit};
 ghost use Rattle.new_board.specs.OneForOne.{gal_kind as kind_of_gal, gal_mode as mode_of_gal, placed_from, same_chips_from, place_line as line_placing, plan_chip as chip_planned};
 
 use crate::old_rows::old_rows;
-use chip_pins::{Old, PlannedChip};
+use avail::{Old, PlannedChip};
 use equations::BoardUnit;
 use mig_base::{
     ChipCells, ChipLine, Items, Kind, Mode, Net, NoMemory, PinName, PlanChip, PlanLine,
@@ -41,10 +41,16 @@ fn placed(alloc: Global, old: &Old, chip: u32) -> Result<Vec<PlacedUnit>, NoMemo
     ensures { IfOk result (λ placed. placed.items ≡ placed_from old.now.circuit chip 0 old.now.units) }
 {
     let mut placed = Vec::new(alloc);
-    for (number, unit) in old.units.iter().enumerate() {
+    for (number, unit) in old.units.as_slice().iter().enumerate() {
         if unit.chip == chip {
             let pin = unit.cell.pin;
-            placed.push(old_rows(alloc, old.circuit, old.variables, pin, number as u32)?)?;
+            placed.push(old_rows(
+                alloc,
+                old.circuit,
+                old.variables.as_slice(),
+                pin,
+                number as u32,
+            )?)?;
         }
     }
     Ok(placed)

@@ -5,12 +5,10 @@ ghost use Rattle.new_board.specs.OneForOne.{old_board, same_chips as chips_same,
 
 use crate::new_wires::{fitted, new_net};
 use crate::one_for_one::{place_lines, plan_chips, same_chips};
-use chip_pins::{Old, PlannedChip};
-use equations::{NetNumbers, units_of};
+use avail::{Old, PlannedChip};
 use mig_base::{ChipCells, Circuit, Items, Net, NoMemory, Plan};
 use new_board::{FittedChip, Rebuilt};
 use std::alloc::Global;
-use structure::all_variables;
 
 /// These new chips, fitted.
 fn fit(alloc: Global, old: &Old, chips: &[PlannedChip]) -> Result<Vec<FittedChip>, NoMemory>
@@ -39,23 +37,11 @@ pub fn rebuild(
     ensures plan { IfOk result (λ made. made.plan ≡ one_for_one net.now chips.now) }
     ensures net { IfOk result (λ made. made.net ≡ net_new net.now (map (fit_on (old_board net.now chips.now)) (chips_same net.now chips.now))) }
 {
-    let units = units_of(alloc, chips)?;
-    if units.len() > u32::MAX as usize {
-        return Err(NoMemory);
-    }
-    let variables = all_variables(alloc, circuit)?;
-    let numbers = NetNumbers::new(alloc, net)?;
-    let old = Old {
-        numbers,
-        net,
-        units: units.as_slice(),
-        circuit,
-        variables: variables.as_slice(),
-    };
+    let old = Old::new(alloc, net, chips, circuit)?;
     let planned = same_chips(alloc, &old, chips)?;
     let plan = Plan {
         chips: plan_chips(alloc, planned.as_slice())?,
-        lines: place_lines(alloc, net, units.as_slice())?,
+        lines: place_lines(alloc, net, old.units.as_slice())?,
     };
     let made = fit(alloc, &old, planned.as_slice())?;
     let net = new_net(alloc, net, made.as_slice())?;

@@ -1,6 +1,5 @@
 -- In settled levels a literal of an alias net has the value of that of its register.
 use Rattle.std.proofs.Common.{ℕ, zero, suc, ◌≡◌, ◌≢◌, Bool, true, false, not, cond, List, [], ◌∷◌, map, Option, Some, None, refl, sym, ap, ◌∙◌, subst}
-use Rattle.std.specs.List.{slice_get}
 use Rattle.mig_base.specs.declared.levels.Level.{Level}
 use Rattle.mig_base.specs.declared.levels.Level.TheVariants.{Zero, One, Z, X}
 use Rattle.mig_base.specs.declared.nets.Pull.{Pull}
@@ -8,20 +7,16 @@ use Rattle.mig_base.specs.declared.circuit.Read.{Read}
 use Rattle.mig_base.specs.declared.circuit.Read.TheVariants.{OfNet, OfRegister}
 use Rattle.mig_base.specs.declared.circuit.Literal.{Literal}
 use Rattle.mig_base.specs.declared.circuit.Gate.{Gate}
-use Rattle.mig_base.specs.declared.circuit.Gate.TheVariants.{Product}
 use Rattle.mig_base.specs.declared.circuit.Gives.{Gives}
-use Rattle.mig_base.specs.declared.circuit.Gives.TheVariants.{Visible}
-use Rattle.mig_base.specs.declared.circuit.Driver.{Driver}
 use Rattle.mig_base.specs.declared.circuit.Register.{Register}
 use Rattle.mig_base.specs.declared.circuit.NetKind.{NetKind}
 use Rattle.mig_base.specs.declared.circuit.NetKind.TheVariants.{Inner}
-use Rattle.mig_base.specs.declared.circuit.Wire.{Wire}
 use Rattle.mig_base.specs.declared.circuit.Circuit.{Circuit}
 use Rattle.mig_base.specs.declared.circuit.Levels.{Levels}
 use Rattle.mig_base.specs.Accepted.{IsAccepted}
 use Rattle.mig_base.specs.Levels.{read_level, not3, level_at, or_x}
 use Rattle.mig_base.specs.Resolve.{resolved}
-use Rattle.mig_base.specs.Structure.{is_shared, alias_of, or_alias, variable_by, variable_literal}
+use Rattle.mig_base.specs.Structure.{alias_of, or_alias, variable_by, variable_literal}
 use Rattle.mig_base.specs.Values.{source_level, literal_value, inverted, row_value}
 use Rattle.mig_base.proofs.Aliases.{alias-is, inner, IsAlias}
 use Rattle.mig_base.proofs.LevelFacts.{inverted-twice}

@@ -1,12 +1,11 @@
 -- All that the rows of a given board read are its nodes.
-use Rattle.std.proofs.Common.{ℕ, zero, suc, ◌≡◌, ◌<◌, ◌+◌, Bool, true, false, ◌||◌, List, [], ◌∷◌, ◌++◌, map, length, Option, Some, None, Result, Ok, refl, sym, ap, ◌∙◌, subst, inl, inr, arith}
+use Rattle.std.proofs.Common.{ℕ, zero, suc, ◌≡◌, ◌<◌, ◌+◌, Bool, true, false, ◌||◌, List, [], ◌∷◌, ◌++◌, map, length, Option, Some, None, Ok, refl, sym, ap, ◌∙◌, subst, inl, inr, arith}
 use Rattle.std.specs.Prelude.{slice_get, if◌then◌else◌, ◌==◌}
 use Rattle.std.specs.List.{list_any, AllByRecursion}
 use Rattle.std.specs.Option.{option_map}
 use Rattle.std.proofs.lemmas.Bool.{and_parts, eqb-true, eq-eqb, or_right, or_left}
 use Rattle.std.proofs.lemmas.Option.{same_Some}
 use Rattle.mig_base.specs.declared.kinds.Kind.{Kind}
-use Rattle.mig_base.specs.declared.kinds.Mode.{Mode}
 use Rattle.mig_base.specs.declared.kinds.Mode.TheVariants.{Simple, Complex, Registered}
 use Rattle.mig_base.specs.declared.cells.Cell.{Cell}
 use Rattle.mig_base.specs.declared.cells.ChipCells.{ChipCells}
@@ -30,8 +29,8 @@ use Rattle.mig_base.specs.declared.circuit.Driver.{Driver}
 use Rattle.mig_base.specs.declared.circuit.Register.{Register}
 use Rattle.mig_base.specs.Among.{Among}
 use Rattle.mig_base.specs.Boards.{ChipUnit, at_of, circuit, driver_of, enable_on, in_cell, in_enable, in_row, is_registered, literals_of, low_pin, net_of, place_of, reads_register, register_of, registers_of, row_on, units_from}
-use Rattle.mig_base.specs.Cells.{is_among, cells_22, cells_by_kind, pal_cells, v8_cell, v8_cells_in, v8_mode, v8_refusal, syn, ac0}
-use Rattle.mig_base.specs.DeviceTables.{cell_pins, enable_pin, has_count, is_22, is_v8, ordinary_pins}
+use Rattle.mig_base.specs.Cells.{is_among, cells_22, cells_by_kind, pal_cells, v8_cells_in, v8_mode, v8_refusal, syn, ac0}
+use Rattle.mig_base.specs.DeviceTables.{enable_pin, has_count, is_22, is_v8, ordinary_pins}
 use Rattle.mig_base.specs.First.{unless}
 use Rattle.mig_base.specs.Given.{AreMade, IsGiven, IsMade}
 use Rattle.mig_base.specs.Reads.{IsNode, driver_reads, edge_reads, gives_reads}

@@ -1,0 +1,4 @@
+pub mod CodeNeeded
+pub mod CodeSearch
+pub mod CodeInputs
+pub mod NeedLaws

@@ -1,0 +1,4 @@
+pub mod KeptBoard
+pub mod Needed
+pub mod ServedVariables
+pub mod Needs

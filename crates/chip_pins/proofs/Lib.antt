@@ -1,3 +1,0 @@
-pub mod CodeNeeded
-pub mod CodeSearch
-pub mod CodeInputs

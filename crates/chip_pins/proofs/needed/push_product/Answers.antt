@@ -1,5 +1,0 @@
-use Rattle.chip_pins.proofs.CodeNeeded.{adds-product}
-use Rattle.chip_pins.proofs.needed.push_product.Goals as goal
-
-pub returns : goal.returns
-returns c = adds-product c.args.lits.now _ _ c.in_ok-push_sources.ensures

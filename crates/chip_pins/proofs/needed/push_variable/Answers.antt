@@ -1,5 +1,0 @@
-use Rattle.chip_pins.proofs.CodeNeeded.{variable-new}
-use Rattle.chip_pins.proofs.needed.push_variable.Goals as goal
-
-pub returns : goal.returns
-returns c = variable-new _ _ c.args.variable c.in_ok-push.ensures.items

@@ -1,7 +1,0 @@
-use Rattle.std.proofs.Common.{◌≡◌, ◌++◌, drop}
-use Rattle.std.specs.Prelude.{filter}
-use Rattle.new_board.specs.InputPins.{is_free}
-use Rattle.chip_pins.proofs.taking.free_pins_of.Given as goal
-
-abbrev pub invariant-loop-pin : goal.invariant-loop-pin
-invariant-loop-pin l = l.free.items ++ filter (is_free l.nets.old.now l.nets.chip.now) (drop l.pin-index l.pin-items) ≡ filter (is_free l.nets.old.now l.nets.chip.now) l.pin-items

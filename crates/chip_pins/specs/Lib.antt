@@ -1,2 +1,0 @@
-pub mod KeptBoard
-pub mod Needed

@@ -1,0 +1,4 @@
+pub mod Listed
+pub mod NewChipLaws
+pub mod FullRowLaws
+pub mod ChipAnswers

@@ -1,0 +1,3 @@
+pub mod NewChips
+pub mod FullRows
+pub mod Answers

@@ -1,0 +1,3 @@
+pub mod PureLaws
+pub mod PlaceLaws
+pub mod LeafLaws

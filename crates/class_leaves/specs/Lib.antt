@@ -1,0 +1,4 @@
+pub mod Pures
+pub mod ClassLeaves
+pub mod PairsAt
+pub mod LeafTriples

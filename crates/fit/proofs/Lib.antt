@@ -1,0 +1,3 @@
+pub mod RuleOrder
+pub mod UnitNames
+pub mod Absorbables

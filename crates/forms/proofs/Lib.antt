@@ -1,0 +1,5 @@
+pub mod AttemptLaws
+pub mod CoverLaws
+pub mod TableLaws
+pub mod WideLaws
+pub mod CoveredLaws

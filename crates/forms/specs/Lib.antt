@@ -1,0 +1,4 @@
+pub mod OldParts
+pub mod Cones
+pub mod Attempts
+pub mod Outcomes

@@ -1,0 +1,4 @@
+pub mod Handed
+pub mod ClassLevels
+pub mod Leaders
+pub mod PairLaws

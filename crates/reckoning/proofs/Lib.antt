@@ -1,0 +1,10 @@
+pub mod LevelTables
+pub mod Kept
+pub mod Made
+pub mod Folds
+pub mod Units
+pub mod NetLaws
+pub mod ReachedLaws
+pub mod NodeLaws
+pub mod ListLaws
+pub mod WholeLaws

@@ -1,0 +1,6 @@
+pub mod Triples
+pub mod Tables
+pub mod Steps
+pub mod Reached
+pub mod Made
+pub mod Whole

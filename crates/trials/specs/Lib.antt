@@ -1,0 +1,4 @@
+pub mod Trials
+pub mod Places
+pub mod Differences
+pub mod Stepping
