@@ -1,3 +1,14 @@
+pub mod EachLaws
+pub mod Listed
+pub mod FirstUnits
+pub mod PartLaws
+pub mod ShareLaws
+pub mod RuleSteps
+pub mod RowLaws
+pub mod PlacedLaws
+pub mod NewChipLaws
+pub mod FullRowLaws
+pub mod ChipSteps
 pub mod RuleOrder
 pub mod UnitNames
 pub mod Absorbables

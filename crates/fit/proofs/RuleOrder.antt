@@ -6,10 +6,10 @@ use Rattle.board.specs.Joined.{Joined}
 use Rattle.plans.specs.FirstOf.{FirstOf, NoneOf}
 use Rattle.plans.specs.Breaches.{RuleGives, line_rules, placed_rules, all_rules}
 use Rattle.plan_lines.proofs.FirstSteps.{first-append, first-of-front}
-use Rattle.chip_rules.specs.declared.rules.ChipRules.{ChipRules}
-use Rattle.chip_rules.specs.declared.rules.ChipRules.TheVariants.{Breach, Fitted}
-use Rattle.chip_rules.specs.Answers.{chip_rules, IsChipAnswer}
-use Rattle.unit_rules.specs.Answers.{unit_rules}
+use Rattle.fit.specs.declared.chip_rules.ChipRules.{ChipRules}
+use Rattle.fit.specs.declared.chip_rules.ChipRules.TheVariants.{Breach, Fitted}
+use Rattle.fit.specs.ChipAnswers.{chip_rules, IsChipAnswer}
+use Rattle.fit.specs.UnitAnswers.{unit_rules}
 use Rattle.fit.specs.Answers.{IsAnswer}
 
 -- where the rules on placed units are kept, those on new chips are left

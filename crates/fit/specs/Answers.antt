@@ -6,8 +6,8 @@ use Rattle.new_board.specs.declared.types.FittedChip.{FittedChip}
 use Rattle.plans.specs.FirstOf.{FirstOf, NoneOf}
 use Rattle.plans.specs.Breaches.{Rule, RuleGives, IsBreach}
 use Rattle.plans.specs.Fitting.{AreFitted}
-use Rattle.chip_rules.specs.declared.rules.ChipRules.{ChipRules}
-use Rattle.chip_rules.specs.declared.rules.ChipRules.TheVariants.{Breach, Fitted}
+use Rattle.fit.specs.declared.chip_rules.ChipRules.{ChipRules}
+use Rattle.fit.specs.declared.chip_rules.ChipRules.TheVariants.{Breach, Fitted}
 use Rattle.fit.specs.declared.FitError.{FitError}
 use Rattle.fit.specs.declared.FitError.TheVariants as error
 

@@ -3,17 +3,17 @@ ghost use Rattle.mig_base.specs.Given.{IsGiven};
 ghost use Rattle.plans.specs.Breaches.{RuleGives, line_rules, placed_rules, all_rules};
 ghost use Rattle.plans.specs.FirstOf.{NoneOf};
 ghost use Rattle.plans.specs.Placings.{placings as placings_of};
-ghost use Rattle.unit_rules.specs.Answers.{AreFreeRows};
+ghost use Rattle.fit.specs.UnitAnswers.{AreFreeRows};
 ghost use Rattle.fit.specs.Answers.{IsAnswer};
 
+use crate::chip_rules::{ChipRules, chip_breach};
+use crate::unit_rules::{UnitRules, unit_breach};
 use board::Board;
-use chip_rules::{ChipRules, chip_breach};
 use mig_base::{NoMemory, Plan};
 use new_board::PlacedUnit;
 use plan_lines::{absorbed_units, line_breach, placings};
 use plans::Placing;
 use std::alloc::Global;
-use unit_rules::{UnitRules, unit_breach};
 
 /// The rules on new chips, where no rule on placed units is broken.
 fn row_chips(

@@ -1,8 +1,21 @@
 //! A plan held against all rules: its breach, or its chips with their cells and wires.
 #![tactic(auto)]
 
+mod breaks;
 mod checking;
+mod chip_inputs;
+mod chip_rules;
+mod copies;
+mod fitting;
+mod marks;
+mod new_chips;
+mod parts;
+mod placed;
+mod places;
 mod plan_copies;
+mod rows;
+mod sharing;
+mod unit_rules;
 
 ghost use Rattle.std.specs.Prelude.{◌≡◌, IfOk, IfErr};
 ghost use Rattle.plans.specs.Breaches.{HasNoBreach};
@@ -10,9 +23,9 @@ ghost use Rattle.plans.specs.Fitting.{AreFitted};
 ghost use Rattle.fit.specs.Answers.{RefusesPlan, IsWanting};
 
 use crate::checking::checked;
+use crate::chip_rules::ChipRules;
 use crate::plan_copies::copied_plan;
 use board::Board;
-use chip_rules::ChipRules;
 use mig_base::{Breach, Items, NoMemory, Plan};
 use new_board::FittedChip;
 use std::alloc::Global;

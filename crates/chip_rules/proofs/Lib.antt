@@ -1,4 +1,0 @@
-pub mod Listed
-pub mod NewChipLaws
-pub mod FullRowLaws
-pub mod ChipAnswers

@@ -1,6 +1,0 @@
-use Rattle.std.proofs.Common.{◌≡◌, drop}
-use Rattle.chip_rules.specs.FullRows.{full_at}
-use Rattle.chip_rules.proofs.marks.is_full_at.Given as goal
-
-abbrev pub invariant-loop-unit : goal.invariant-loop-unit
-invariant-loop-unit l = full_at (drop l.unit-index l.units) l.pin ≡ full_at l.units l.pin

@@ -1,3 +1,0 @@
-pub mod NewChips
-pub mod FullRows
-pub mod Answers

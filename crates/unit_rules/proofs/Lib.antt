@@ -1,7 +1,0 @@
-pub mod FirstUnits
-pub mod PartLaws
-pub mod ShareLaws
-pub mod RuleSteps
-pub mod EachLaws
-pub mod RowLaws
-pub mod PlacedLaws

@@ -1,9 +1,0 @@
-use Rattle.std.proofs.Common.{subst}
-use Rattle.plans.specs.FirstOf.{GivesFirst}
-use Rattle.plans.specs.Breaches.{RuleGives}
-use Rattle.unit_rules.specs.declared.placed.Placed.{Placed}
-use Rattle.unit_rules.specs.Answers.{part_rules}
-use Rattle.unit_rules.proofs.breaks.broken_part.Goals as goal
-
-pub returns : goal.returns
-returns c = subst (λ (q : Placed). GivesFirst (RuleGives q.board.now q.plan.now) part_rules c.first_by_parts.result) c.new-reckoned.ensures.placed c.first_by_parts.ensures

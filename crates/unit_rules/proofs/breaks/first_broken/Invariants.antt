@@ -1,6 +1,0 @@
-use Rattle.plan_lines.proofs.FirstSteps.{FromIndex}
-use Rattle.unit_rules.specs.RuleLists.{PartGives}
-use Rattle.unit_rules.proofs.breaks.first_broken.Given as goal
-
-abbrev pub invariant-loop-i : goal.invariant-loop-i
-invariant-loop-i l = FromIndex (PartGives l.reckoned.placed.now.board.now l.reckoned.placed.now.plan.now l.rule) l.units l.i

@@ -1,8 +1,0 @@
-use Rattle.std.proofs.Common.{◌≡◌, true, false, sym, ◌∙◌}
-use Rattle.unit_rules.proofs.ShareLaws.{enable-free}
-use Rattle.unit_rules.proofs.breaks.wrong_enable.Goals as goal
-
-pub returns : goal.returns
-returns c =
-    enable-free c.args.reckoned.now.placed.now.board.now c.args.reckoned.now.placed.now.plan.now c.args.unit.now c.args.parts.now c.requires.parts (sym c.has_many.ensures ∙ c.if-has_many.false)
-    (λ k. let wrong : true ≡ false = sym (c.wants_other_pin.ensures.no k) ∙ c.if-wants_other_pin.false in cc)

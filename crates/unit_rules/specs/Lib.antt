@@ -1,4 +1,0 @@
-pub mod Answers
-pub mod Parts
-pub mod RuleLists
-pub mod Rows
