@@ -1,0 +1,3 @@
+pub mod NodeValues
+pub mod Fitting
+pub mod Wired
