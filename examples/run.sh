@@ -1,31 +1,53 @@
 #!/usr/bin/env bash
-# Runs the program on the example board and compares what it prints with what is expected. The program's path may be given.
+# Runs a built program on counter/ and on each folder of refused/, and shows what isn't as expected. The program's path may be given.
 set -euo pipefail
-here=$(cd "$(dirname "$0")/.." && pwd)
-program=$(realpath "${1:-$here/crates/palmig/out/palmig}")
+here=$(cd "$(dirname "$0")" && pwd)
+program=$(realpath -m "${1:-$here/../crates/palmig/out/palmig}")
+[ -x "$program" ] || { echo "there is no program $program"; exit 1; }
 work=$(mktemp -d)
 trap 'rm -rf "$work"' EXIT
-cp "$here"/examples/counter/*.* "$work"
-cd "$work"
-"$program" list counter.U1 PAL16R4 | cmp - "$here/examples/counter/expected/list.txt"
-"$program" check counter | cmp - "$here/examples/counter/expected/check.txt"
-"$program" sim counter count | cmp - "$here/examples/counter/expected/sim.txt"
-"$program" migrate counter new | cmp - "$here/examples/counter/expected/migrate.txt"
-"$program" list new.U1 GAL16V8 | head -n 1 | grep -qx 'GAL16V8 registered'
+failed=0
+
+# expect ANSWER STATUS WORDS: a call of these words, here, prints the file ANSWER and ends with STATUS
+expect() {
+  local answer=$1 status=$2 ended=0
+  shift 2
+  "$program" "$@" > "$work/printed" || ended=$?
+  if [ "$ended" != "$status" ] || ! cmp -s "$answer" "$work/printed"; then
+    failed=1
+    echo "${folder#"$here"/}: palmig $*: status $ended, expected $status"
+    diff "$answer" "$work/printed" | head -n 20 || true
+  fi
+}
+
+# enter FOLDER: goes into a copy of it
+enter() {
+  folder=$1
+  cp -r "$folder" "$work/${folder##*/}"
+  cd "$work/${folder##*/}"
+}
+
+enter "$here/counter"
+expect expected/list.txt 0 list counter.U1 PAL16R4
+expect expected/check.txt 0 check counter
+expect expected/sim.txt 0 sim counter count
+expect expected/migrate.txt 0 migrate counter new
 
 # the new board shows the same
-"$program" sim new count | cmp - "$here/examples/counter/expected/sim.txt"
+expect expected/sim.txt 0 sim new count
 
-# a script of this many steps, and what is said of the first that is one too many
-steps() {
-  printf 'script 1\nports CLK RST\n'
-  seq "$1" | sed 's/.*/step 00/'
-  echo end
-}
-steps 100000 > most.sim
-[ "$("$program" sim counter most | grep -c '^show 001110$')" = 100000 ]
-steps 100001 > more.sim
-[ "$("$program" sim counter more || true)" = 'refused script more.sim StepsOver 100003' ]
-truncate -s 16777217 large.sim
-[ "$("$program" sim counter large || true)" = 'refused toolong large.sim' ]
-echo 'all as expected'
+# as many steps as a script may have
+{ printf 'script 1\nports CLK RST\n'; seq 100000 | sed 's/.*/step 00/'; echo end; } > most.sim
+{ head -n 1 expected/sim.txt; seq 100000 | sed 's/.*/show 001110/'; } > most.txt
+expect most.txt 0 sim counter most
+
+count=0
+for each in "$here"/refused/*/; do
+  enter "${each%/}"
+  if [ -f make.sh ]; then sh make.sh; fi
+  read -r -a words < call
+  expect answer "$(cat status)" "${words[@]}"
+  count=$((count + 1))
+done
+[ $failed = 0 ] && echo "the counter and $count refusals: all as expected"
+exit $failed

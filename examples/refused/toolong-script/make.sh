@@ -1,0 +1,1 @@
+truncate -s 16777217 steps.sim
