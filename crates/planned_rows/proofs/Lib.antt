@@ -1,0 +1,3 @@
+pub mod CoverPrimes
+pub mod CoveredRows
+pub mod FormRows
