@@ -1,0 +1,3 @@
+pub mod PinNets
+pub mod NewUnits
+pub mod SeenRows
