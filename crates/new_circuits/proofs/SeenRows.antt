@@ -114,7 +114,7 @@ module _ (b : Joined) (chips : List NewChip) (j : ℕ) (chip : NewChip) (found :
   registers = registers_of (new_units b chips)
 
   -- a register that a row reads
-  register-seen : (pin k : ℕ) → register_on a chip pin ≡ Some k → IsNode new (place (Reg pin)) → (numbers_of b chips).register (place_of (j, pin) (map at_of registers)) ≡ k
+  pub register-seen : (pin k : ℕ) → register_on a chip pin ≡ Some k → IsNode new (place (Reg pin)) → (numbers_of b chips).register (place_of (j, pin) (map at_of registers)) ≡ k
   register-seen pin k on there =
       let long : length (map at_of registers) ≡ length registers = length-map registers at_of in
       let made : length new.registers ≡ length registers = length-map registers _ in
@@ -133,7 +133,7 @@ module _ (b : Joined) (chips : List NewChip) (j : ℕ) (chip : NewChip) (found :
       at (Some x) e = ap or_zero e
 
   -- the net of a pin that a row reads
-  net-seen : (pin n : ℕ) → Among pin (ordinary_pins chip.kind) → pin_net (old b) chip pin ≡ Some n → (numbers_of b chips).net (net_of (new_wiring b chips) (j, pin)) ≡ n
+  pub net-seen : (pin n : ℕ) → Among pin (ordinary_pins chip.kind) → pin_net (old b) chip pin ≡ Some n → (numbers_of b chips).net (net_of (new_wiring b chips) (j, pin)) ≡ n
   net-seen pin n ordinary e = ap (λ (o : Option (Option ℕ)). or_zero (option_and_then (λ (x : Option ℕ). x) o)) (pin-kept b chips j chip pin found ordinary) ∙ ap or_zero e
 
   -- what the columns of a pin read

@@ -1,0 +1,5 @@
+pub mod NewRows
+pub mod CombUnits
+pub mod RegUnits
+pub mod SharedRows
+pub mod EnableRows
