@@ -4,7 +4,7 @@ use Rattle.std.specs.Prelude.{option_and_then}
 use Rattle.std.specs.List.{slice_get}
 use Rattle.std.specs.Option.{option_map}
 use Rattle.std.proofs.lemmas.Bool.{cases_lt}
-use Rattle.std.proofs.lemmas.Option.{slice_get-map}
+use Rattle.std.proofs.lemmas.Option.{same_Some, slice_get-map}
 use Rattle.mig_base.specs.declared.nets.Net.{Net}
 use Rattle.mig_base.specs.declared.nets.ChipLine.{ChipLine}
 use Rattle.mig_base.specs.Among.{Among}
@@ -16,7 +16,7 @@ use Rattle.new_board.specs.declared.types.FittedChip.{FittedChip}
 use Rattle.new_board.specs.declared.types.PinNet.{PinNet}
 use Rattle.new_board.specs.NewChip.{OldBoard, NewChip, private_from}
 use Rattle.new_board.specs.InputPins.{pin_net}
-use Rattle.new_board.specs.NewFiles.{fitted, wire_at, new_wires, new_number, new_chip_line}
+use Rattle.new_board.specs.NewFiles.{fitted, number_in, wire_at, new_wires, new_number, new_chip_line}
 use Rattle.new_board.proofs.KeptNumbers.{old_kept, nets-length, kept-numbers}
 use Rattle.new_board.proofs.NewWiring.{kept_of}
 use Rattle.new_board.proofs.Wiring.{get-left, get-right, place-get, net-line, net-private, among-privates, wire_on, new-line, wire-some, wire-none, among-pins}
@@ -110,6 +110,30 @@ module _ (b : Joined) (chips : List NewChip) where
             by : (n < private_from b.net) ⊎ (private_from b.net ≤ n) → slice_get (old_nets b chips) (net_of wiring (j, pin)) ≡ Some (pin_net (old b) chip pin)
             by (inl low) = wired n e low ∙ ap (λ (o : Option ℕ). Some o) (sym e)
             by (inr high) = unwired (ap (wire_at (old b) pin) e ∙ ap (λ (q : Bool). cond q (Some (record { pin = pin; net = n })) None) (le-ltb n (private_from b.net) high))
+
+    abbrev number : ℕ
+    number = net_of wiring (j, pin)
+
+    -- a pin on GND or VCC
+    constant : (n : ℕ) → pin_net (old b) chip pin ≡ Some n → n < 2 → number ≡ n
+    constant n e low =
+        let on : line_at wiring.pins (j, pin) ≡ Some (new_number kept n) = line ∙ ap (option_map (new_number kept)) (wire-some (old b) (pin_net (old b) chip) (ordinary_pins chip.kind) pin n ordinary e (omega (arith, low))) in
+        net-line wiring (j, pin) (new_number kept n) on ∙ ap (λ (q : Bool). cond q n (2 + number_in kept n)) (lt-ltb n 2 low)
+
+    -- a pin on another net
+    other : (n : ℕ) → pin_net (old b) chip pin ≡ Some n → 2 ≤ n → 2 ≤ number
+    other n e high = at (cases_lt number 2)
+      where
+        at : (number < 2) ⊎ (2 ≤ number) → 2 ≤ number
+        at (inr h) = h
+        at (inl h) =
+            let stands : Some (old_kept kept number) ≡ pin_net (old b) chip pin = same_Some (Some (old_kept kept number)) (pin_net (old b) chip pin) (sym (kept-stands number (omega (arith, h))) ∙ kept-pin) in
+            let same : old_kept kept number ≡ n = same_Some (old_kept kept number) n (stands ∙ e) in
+            let itself : old_kept kept number ≡ number = (kept-numbers (old b) chips).constants number h in
+            absurd (omega (arith, same, itself, h, high))
+
+    pub constants-kept : (n : ℕ) → pin_net (old b) chip pin ≡ Some n → (n < 2 → number ≡ n) × (2 ≤ n → 2 ≤ number)
+    constants-kept n e = (constant n e, other n e)
 
 pub pin-kept : (b : Joined) (chips : List NewChip) (j : ℕ) (chip : NewChip) (pin : ℕ) → slice_get chips j ≡ Some chip → Among pin (ordinary_pins chip.kind) →
     slice_get (old_nets b chips) (net_of (new_wiring b chips) (j, pin)) ≡ Some (pin_net (old b) chip pin)

@@ -1,7 +1,7 @@
 //! The nets, units and registers of a planned board, by those of the old board that they stand for.
 #![tactic(auto)]
 
-ghost use Rattle.std.specs.Prelude.{◌≡◌, ℕ, List, Some, slice_get};
+ghost use Rattle.std.specs.Prelude.{◌≡◌, ◌<◌, ◌≤◌, ℕ, List, Some, slice_get};
 ghost use Rattle.std.specs.List.{AllByRecursion};
 ghost use Rattle.mig_base.specs.declared.circuit.Literal.{Literal};
 ghost use Rattle.mig_base.specs.Among.{Among};
@@ -22,6 +22,12 @@ ghost use Rattle.new_circuits.specs.NewNumbers.{new_literals, new_wiring, new_un
 pub fn pins_keep_their_nets()
     ensures { (b : Joined) (chips : List NewChip) (j : ℕ) (chip : NewChip) (pin : ℕ) → slice_get chips j ≡ Some chip → Among pin (ordinary_pins chip.kind) →
         slice_get (old_nets b chips) (net_of (new_wiring b chips) (j, pin)) ≡ Some (pin_net (old b) chip pin) }
+{}
+
+/// A pin on GND or VCC stays there, and no other pin comes there.
+pub fn constants_keep_their_numbers()
+    ensures { (b : Joined) (chips : List NewChip) (j : ℕ) (chip : NewChip) (pin : ℕ) → slice_get chips j ≡ Some chip → Among pin (ordinary_pins chip.kind) →
+        (n : ℕ) → pin_net (old b) chip pin ≡ Some n → (n < 2 → net_of (new_wiring b chips) (j, pin) ≡ n) × (2 ≤ n → 2 ≤ net_of (new_wiring b chips) (j, pin)) }
 {}
 
 /// Each unit of the new board is that of a placed unit on its pin.

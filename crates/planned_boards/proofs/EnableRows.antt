@@ -1,7 +1,6 @@
 -- The enable pin of a V8 stands for the row that it is of.
-use Rattle.std.proofs.Common.{ℕ, zero, suc, ◌≡◌, ◌⊎◌, ◌+◌, ◌<◌, ◌≤◌, Bool, true, false, not, cond, eqb, ◌&&◌, List, [], ◌∷◌, Option, Some, None, refl, sym, ap, ◌∙◌, subst, inl, inr, arith, ne_eqb}
+use Rattle.std.proofs.Common.{ℕ, zero, suc, ◌≡◌, ◌+◌, ◌≤◌, Bool, true, false, not, cond, eqb, ◌&&◌, List, [], ◌∷◌, Option, Some, None, refl, sym, ap, ◌∙◌, subst, inl, inr, arith, ne_eqb}
 use Rattle.std.specs.Prelude.{option_and_then}
-use Rattle.std.specs.List.{filter, slice_get}
 use Rattle.std.proofs.lemmas.Bool.{and_parts}
 use Rattle.std.proofs.lemmas.Option.{same_Some}
 use Rattle.mig_base.specs.declared.levels.Level.{Level}
@@ -27,7 +26,7 @@ use Rattle.fitting_levels.specs.NodeValues.{NodeLevels, gate_by}
 use Rattle.carried_boards.specs.Carries.{Numbers, variable_at}
 use Rattle.placed_boards.specs.Places.{IsPart, Named}
 use Rattle.placed_boards.specs.Places.Named.{itself, behind}
-use Rattle.placed_boards.specs.Rows.{AreRows, IsSeenAs, seen_literal}
+use Rattle.placed_boards.specs.Rows.{AreRows, seen_literal}
 use Rattle.placed_boards.proofs.Naming.{variable-none, variable-some}
 use Rattle.placed_boards.proofs.RowParts.{gate-part, ground-part, power-part}
 use Rattle.planned_boards.specs.Planned.{IsEnablePin}
