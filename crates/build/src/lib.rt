@@ -1,7 +1,6 @@
 //! The new chips, plan and wiring of a board that is rebuilt one for one.
 #![tactic(auto)]
 
-mod new_wires;
 mod old_rows;
 mod one_for_one;
 mod rebuilding;

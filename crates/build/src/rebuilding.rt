@@ -3,12 +3,21 @@ ghost use Rattle.mig_base.specs.Boards.{circuit as circuit_of};
 ghost use Rattle.new_board.specs.NewFiles.{fitted as fit_on, new_net as net_new};
 ghost use Rattle.new_board.specs.OneForOne.{old_board, same_chips as chips_same, one_for_one};
 
-use crate::new_wires::{fitted, new_net};
 use crate::one_for_one::{place_lines, plan_chips, same_chips};
 use avail::{Old, PlannedChip};
 use mig_base::{ChipCells, Circuit, Items, Net, NoMemory, Plan};
 use new_board::{FittedChip, Rebuilt};
+use new_cells::Columns;
+use new_wirings::new_net;
 use std::alloc::Global;
+
+/// A new chip with its units, fitted.
+fn fitted(alloc: Global, old: &Old, chip: &PlannedChip) -> Result<FittedChip, NoMemory>
+    ensures { IfOk result (λ made. made ≡ fit_on old.now chip.now) }
+{
+    let columns = Columns::new(alloc, old, chip)?;
+    columns.fitted(alloc)
+}
 
 /// These new chips, fitted.
 fn fit(alloc: Global, old: &Old, chips: &[PlannedChip]) -> Result<Vec<FittedChip>, NoMemory>

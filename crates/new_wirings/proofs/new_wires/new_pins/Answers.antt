@@ -2,7 +2,7 @@ use Rattle.std.proofs.Common.{◌+◌, ◌++◌, List, drop, arith, refl, ap, �
 use Rattle.mig_base.specs.declared.nets.PinLine.{PinLine}
 use Rattle.equations.proofs.Steps.{goes-on}
 use Rattle.new_board.specs.NewFiles.{new_pins_from}
-use Rattle.build.proofs.new_wires.new_pins.Goals as goal
+use Rattle.new_wirings.proofs.new_wires.new_pins.Goals as goal
 
 pub loop-number-preserved : goal.loop-number-preserved
 loop-number-preserved c =

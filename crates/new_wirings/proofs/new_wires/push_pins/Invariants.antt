@@ -2,7 +2,7 @@ use Rattle.std.proofs.Common.{◌≡◌, ◌++◌, map, drop}
 use Rattle.mig_base.specs.declared.nets.PinLine.{PinLine}
 use Rattle.new_board.specs.declared.types.PinNet.{PinNet}
 use Rattle.new_board.specs.NewFiles.{new_number}
-use Rattle.build.proofs.new_wires.push_pins.Given as goal
+use Rattle.new_wirings.proofs.new_wires.push_pins.Given as goal
 
 abbrev pub invariant-loop-wire : goal.invariant-loop-wire
 invariant-loop-wire l =

@@ -1,6 +1,6 @@
 use Rattle.std.proofs.Common.{arith, length, ap}
-use Rattle.build.proofs.CodeWires.{kept-few}
-use Rattle.build.proofs.new_wires.new_net.Goals as goal
+use Rattle.new_wirings.proofs.KeptFew.{kept-few}
+use Rattle.new_wirings.proofs.new_wires.new_net.Goals as goal
 
 pub new_pins-requires-clause-kept : goal.new_pins-requires-clause-kept
 new_pins-requires-clause-kept c =

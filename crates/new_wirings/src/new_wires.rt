@@ -1,21 +1,11 @@
 ghost use Rattle.std.specs.Prelude.{◌≡◌, ◌+◌, ◌-◌, ◌<◌, ◌≤◌, ◌++◌, map, filter, length, not, slice_get, IfOk, OnOk};
 ghost use Rattle.std.specs.List.{list_any, filter_map};
 ghost use Rattle.mig_base.specs.Boards.{places_from, is_port as port_line};
-ghost use Rattle.new_board.specs.NewFiles.{fitted as fit_on, stands_on as stands, kept_numbers as numbers_kept, number_in as number_among, new_number as number_new, new_chip_line as chip_line_new, new_pins_from, new_net as net_new};
+ghost use Rattle.new_board.specs.NewFiles.{stands_on as stands, kept_numbers as numbers_kept, number_in as number_among, new_number as number_new, new_chip_line as chip_line_new, new_pins_from, new_net as net_new};
 
-use avail::{Old, PlannedChip};
 use mig_base::{ChipLine, Items, Net, NetLine, NoMemory, PinLine, Port};
 use new_board::FittedChip;
-use new_cells::Columns;
 use std::alloc::Global;
-
-/// A new chip with its units, fitted.
-pub(crate) fn fitted(alloc: Global, old: &Old, chip: &PlannedChip) -> Result<FittedChip, NoMemory>
-    ensures { IfOk result (λ made. made ≡ fit_on old.now chip.now) }
-{
-    let columns = Columns::new(alloc, old, chip)?;
-    columns.fitted(alloc)
-}
 
 /// Whether a new chip has a pin on a net.
 fn stands_on(net: u32, chip: &FittedChip) -> bool
@@ -172,8 +162,8 @@ fn net_line(nets: &[NetLine], number: u32) -> Option<NetLine>
     nets.get((number as usize).saturating_sub(2)).copied()
 }
 
-/// The new wiring: the kept nets, the chips, and by chip and rising pin the wired pins.
-pub(crate) fn new_net(alloc: Global, net: &Net, chips: &[FittedChip]) -> Result<Net, NoMemory>
+/// The new wiring: the kept nets, the chips, and by chip and rising pin the wired pins. Fails for want of memory alone.
+pub fn new_net(alloc: Global, net: &Net, chips: &[FittedChip]) -> Result<Net, NoMemory>
     requires nets { length net.now.nets ≤ 1024 }
     requires chips { length chips.now ≤ 64 }
     ensures { IfOk result (λ made. made ≡ net_new net.now chips.now) }

@@ -3,7 +3,7 @@ use Rattle.std.specs.Prelude.{filter, not}
 use Rattle.std.specs.List.{list_any}
 use Rattle.mig_base.specs.Boards.{is_port, places_from}
 use Rattle.new_board.specs.NewFiles.{stands_on}
-use Rattle.build.proofs.new_wires.push_inner.Given as goal
+use Rattle.new_wirings.proofs.new_wires.push_inner.Given as goal
 
 abbrev pub invariant-loop-place : goal.invariant-loop-place
 invariant-loop-place l =

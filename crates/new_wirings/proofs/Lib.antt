@@ -1,0 +1,4 @@
+pub mod KeptFew
+pub mod KeptLines
+pub mod WiredPins
+pub mod WrittenWiring
