@@ -1,0 +1,2 @@
+pub mod GalFuses
+pub mod MoreFiles
