@@ -1,6 +1,6 @@
 -- Which units a set of live units calls for: those behind shown ports, and those behind what its units read.
-use Rattle.std.proofs.Common.{ℕ, ◌≡◌, ◌<◌, Bool, true, false, not, ◌&&◌, ◌||◌, List, Option, Some, None, length, refl, sym, subst, inl, inr, arith}
-use Rattle.std.specs.Prelude.{slice_get, ◌==◌, nat_lt, is_some}
+use Rattle.std.proofs.Common.{ℕ, ◌≡◌, Bool, true, false, ◌&&◌, ◌||◌, Option, Some, None, length, refl, sym, subst}
+use Rattle.std.specs.Prelude.{slice_get, ◌==◌, nat_lt}
 use Rattle.std.specs.List.{list_any}
 use Rattle.std.proofs.lemmas.Bool.{eqb-true, eq-eqb, ltb-true, lt-ltb}
 use Rattle.mig_base.specs.declared.circuit.Read.{Read}
@@ -16,7 +16,7 @@ use Rattle.mig_base.specs.Among.{Among}
 use Rattle.mig_base.specs.First.{made_from}
 use Rattle.mig_base.proofs.Amongs.{any-among, among-any}
 use Rattle.mig_base.proofs.ListLaws.{and-true}
-use Rattle.structure.specs.Live.{unit_reads, DrivesWire, GivesQ, HasRegister, StandsBehind, NotHanded, WireNotHanded, IsShown, IsLive}
+use Rattle.structure.specs.Live.{unit_reads, DrivesWire, GivesQ, HasRegister, StandsBehind, NotHanded, WireNotHanded}
 
 -- a set of units
 abbrev pub Set : Type 0

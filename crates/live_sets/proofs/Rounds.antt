@@ -11,9 +11,9 @@ use Rattle.mig_base.specs.declared.circuit.Driver.{Driver}
 use Rattle.mig_base.specs.declared.circuit.Circuit.{Circuit}
 use Rattle.mig_base.specs.Among.{Among}
 use Rattle.mig_base.specs.First.{made_from}
-use Rattle.mig_base.proofs.Amongs.{any-among, among-any, among-filter, filter-among, made-among}
+use Rattle.mig_base.proofs.Amongs.{any-among, among-any, filter-among, made-among}
 use Rattle.mig_base.proofs.ListLaws.{and-true, get_or-made_from, length-made_from}
-use Rattle.structure.specs.Live.{reads_of_unit, unit_reads, StandsBehind, WireNotHanded, IsShown, IsLiveSet, IsLive, IsLiveness}
+use Rattle.structure.specs.Live.{reads_of_unit, unit_reads, StandsBehind, IsLiveSet, IsLive, IsLiveness}
 use Rattle.live_sets.proofs.Calls.{Set, stands_behind, wire_not_handed, drives_port, is_read_by, calls, behind-stands, stands-behind, wire-shown, shown-wire}
 
 -- the numbers of all units
@@ -94,19 +94,20 @@ grown-there c set waiting there u within = at (there u within) (calls c set u) r
 
 filter-least : (p : ℕ → Bool) (us : List ℕ) → length (filter (λ u. not (p u)) us) ≤ length us
 filter-least p [] = omega arith
-filter-least p (u ∷ us) = at (p u) refl
+filter-least p (u ∷ us) = at (p u) refl (filter-least p us)
   where
-    at : (b : Bool) → p u ≡ b → length (filter (λ v. not (p v)) (u ∷ us)) ≤ length (u ∷ us)
-    at true e = rw e (omega (arith, filter-least p us))
-    at false e = rw e (omega (arith, filter-least p us))
+    at : (b : Bool) → p u ≡ b → length (filter (λ v. not (p v)) us) ≤ length us → length (filter (λ v. not (p v)) (u ∷ us)) ≤ length (u ∷ us)
+    at true e less = rw e (omega (arith, less))
+    at false e less = rw e (omega (arith, less))
 
 filter-less : (p : ℕ → Bool) (us : List ℕ) → list_any p us ≡ true → length (filter (λ u. not (p u)) us) < length us
 filter-less p [] some = cc
-filter-less p (u ∷ us) some = at (p u) refl some
+filter-less p (u ∷ us) some = at (p u) refl some (filter-less p us)
   where
-    at : (b : Bool) → p u ≡ b → (b || list_any p us) ≡ true → length (filter (λ v. not (p v)) (u ∷ us)) < length (u ∷ us)
-    at true e any = rw e (omega (arith, filter-least p us))
-    at false e any = rw e (omega (arith, filter-less p us any))
+    at : (b : Bool) → p u ≡ b → (b || list_any p us) ≡ true → (list_any p us ≡ true → length (filter (λ v. not (p v)) us) < length us) →
+        length (filter (λ v. not (p v)) (u ∷ us)) < length (u ∷ us)
+    at true e any less = rw e (omega (arith, filter-least p us))
+    at false e any less = rw e (omega (arith, less any))
 
 -- where no unit that waits is called for, the set is closed
 none-called : (c : Circuit) (set : Set) (waiting : List ℕ) → IsSound c set → AreThere c set waiting → list_any (calls c set) waiting ≡ false → Closed c
@@ -120,11 +121,13 @@ none-called c set waiting sound there none = record { set = set; sound = sound; 
 rounds : (n : ℕ) (c : Circuit) (set : Set) (waiting : List ℕ) → length waiting ≤ n → IsSound c set → AreThere c set waiting → Closed c
 rounds zero c set [] few sound there = none-called c set [] sound there refl
 rounds zero c set (u ∷ us) few sound there = absurd (omega (arith, few))
-rounds (suc n) c set waiting few sound there = at (list_any (calls c set) waiting) refl
+rounds (suc n) c set waiting few sound there =
+    at (list_any (calls c set) waiting) refl
+    (λ e. rounds n c (grown c set) (left c set waiting) (omega (arith, filter-less (calls c set) waiting e, few)) (grown-sound c set sound) (grown-there c set waiting there))
   where
-    at : (b : Bool) → list_any (calls c set) waiting ≡ b → Closed c
-    at true e = rounds n c (grown c set) (left c set waiting) (omega (arith, filter-less (calls c set) waiting e, few)) (grown-sound c set sound) (grown-there c set waiting there)
-    at false e = none-called c set waiting sound there e
+    at : (b : Bool) → list_any (calls c set) waiting ≡ b → (list_any (calls c set) waiting ≡ true → Closed c) → Closed c
+    at true e more = more e
+    at false e more = none-called c set waiting sound there e
 
 empty : Set
 empty u = false
@@ -178,7 +181,7 @@ has-liveness c =
       record {
         units = length-made_from s.set 0 (length c.units);
         sound = λ u e. s.sound u (flagged s.set (length c.units) u e);
-        every = λ u within live. get_or-made_from s.set 0 (length c.units) u false within ∙ in-others c s.set u within (live (with_others c s.set) (closed-live c s));
+        every = λ u within live. get_or-made_from s.set 0 (length c.units) u false within ∙ ap s.set (let same : 0 + u ≡ u = omega arith in same) ∙ in-others c s.set u within (live (with_others c s.set) (closed-live c s));
       },
     )
   where
@@ -186,5 +189,5 @@ has-liveness c =
     flagged f n u e = at (nat_lt u n) refl
       where
         at : (b : Bool) → nat_lt u n ≡ b → f u ≡ true
-        at true p = sym (get_or-made_from f 0 n u false (ltb-true u n p)) ∙ e
+        at true p = let same : f (0 + u) ≡ f u = ap f (omega arith) in sym same ∙ sym (get_or-made_from f 0 n u false (ltb-true u n p)) ∙ e
         at false p = let none : slice_index_or (made_from f 0 n) u false ≡ false = get_or_past (made_from f 0 n) u false (omega (arith, length-made_from f 0 n, ltb-false u n p)) in let no : ⊥ = cc in absurd no
