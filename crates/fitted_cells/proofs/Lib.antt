@@ -1,0 +1,9 @@
+pub mod OwnReads
+pub mod PlanRules
+pub mod PlacedPins
+pub mod UnitsOnPins
+pub mod UnitForms
+pub mod FitUnits
+pub mod ReadableRows
+pub mod FitChips
+pub mod PlansBuilt
