@@ -1,7 +1,7 @@
 -- The new chips of a plan without breach have cells that some fuses make.
-use Rattle.std.proofs.Common.{ℕ, ◌≡◌, ◌+◌, Bool, true, false, not, cond, ◌&&◌, ◌||◌, List, [], ◌∷◌, ◌++◌, map, Option, Some, None, is_some, refl, sym, ap, ◌∙◌, subst, inl, inr, ◌⊎◌}
+use Rattle.std.proofs.Common.{ℕ, ◌≡◌, Bool, true, false, Option, Some, None, refl, sym, ap, ◌∙◌, subst, inl, inr, ◌⊎◌}
 use Rattle.std.specs.Prelude.{slice_get}
-use Rattle.std.specs.List.{list_all, filter}
+use Rattle.std.specs.List.{filter}
 use Rattle.std.proofs.lemmas.Bool.{and_parts}
 use Rattle.mig_base.specs.Among.{Among}
 use Rattle.mig_base.specs.declared.kinds.Kind.{Kind}
@@ -11,8 +11,7 @@ use Rattle.mig_base.specs.declared.circuit.Gate.{Gate}
 use Rattle.mig_base.specs.declared.circuit.Gate.TheVariants.{Never, Product}
 use Rattle.mig_base.specs.declared.plans.Plan.{Plan}
 use Rattle.mig_base.specs.declared.plans.PlanChip.{PlanChip}
-use Rattle.mig_base.specs.declared.plans.Part.{Part}
-use Rattle.mig_base.specs.declared.plans.Part.TheVariants.{Enable, Reset, Preset}
+use Rattle.mig_base.specs.declared.plans.Part.TheVariants.{Enable}
 use Rattle.mig_base.specs.declared.plans.Breach.TheVariants as breach
 use Rattle.mig_base.specs.DeviceTables.{is_22, is_gal, cell_pins}
 use Rattle.mig_base.specs.Given.{IsGiven}
@@ -22,27 +21,26 @@ use Rattle.structure.specs.Pure.{always_enabled}
 use Rattle.board.specs.Joined.{Joined, equations_of}
 use Rattle.board.specs.Variables.{var_of}
 use Rattle.new_board.specs.declared.types.PlacedUnit.{PlacedUnit}
-use Rattle.new_board.specs.NewChip.{NewChip, unit_on, first_of, placed_register, is_registered_unit, first_registered, gate_products}
+use Rattle.new_board.specs.NewChip.{NewChip, unit_on, is_registered_unit, first_registered, gate_products}
 use Rattle.new_board.specs.NewFiles.{new_cells, has_full_row, reset_gate, preset_gate}
 use Rattle.new_board.specs.InputPins.{first_unserved}
 use Rattle.mig_base.specs.declared.circuit.Read.{Read}
 use Rattle.new_board.proofs.Items.{all-pass, among-unfilter}
 use Rattle.new_board.proofs.Columns.{first-among}
 use Rattle.new_board.proofs.Reading.{EnableApart}
-use Rattle.new_board.proofs.WellMade.{IsFitUnit, IsFitChip, chip-well}
+use Rattle.new_board.proofs.WellMade.{IsFitUnit, chip-well}
 use Rattle.plan_text.specs.PlanText.{IsPlan, is_plan_chip}
-use Rattle.plans.specs.FirstOf.{AreEach}
 use Rattle.plans.specs.declared.placing.Placing.{Placing}
 use Rattle.plans.specs.Placings.{old, placings, placings_on, absorbed_units}
-use Rattle.plans.specs.Forms.{Products, AreRows, IsNewChip, IsControl, has_register, room_of}
-use Rattle.plans.specs.UnitBreaches.{first_on, is_never, are_many, breaks_reset, BothParts, GivesReset, is_out_of_mode}
+use Rattle.plans.specs.Forms.{Products, AreRows, IsNewChip, has_register, room_of}
+use Rattle.plans.specs.UnitBreaches.{first_on, breaks_reset, GivesReset, is_out_of_mode}
 use Rattle.plans.specs.ChipBreaches.{GivesNoInput, GivesFullRow, unit_is_full}
 use Rattle.plans.specs.Breaches.{WrongReset, NoInput, FullRow, all_rules, RuleGives, HasNoBreach}
 use Rattle.plans.proofs.Firsts.{none-each}
 use Rattle.fit.proofs.FirstUnits.{first-own}
 use Rattle.fit.proofs.EachLaws.{each-some}
 use Rattle.fitted_cells.proofs.OwnReads.{ReadOwn, own-form, own-control}
-use Rattle.fitted_cells.proofs.UnitsOnPins.{each-back, pins-apart, own-pin, IsPlacedOn, placed-on}
+use Rattle.fitted_cells.proofs.UnitsOnPins.{each-back, pins-apart, own-pin, placed-on}
 use Rattle.fitted_cells.proofs.FitUnits.{IsPlacedUnit, fit-by, in-mode, register-is}
 use Rattle.fitted_cells.proofs.ReadableRows.{unit-own, row-readable, enable-apart}
 

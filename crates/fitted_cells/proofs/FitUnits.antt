@@ -1,20 +1,16 @@
 -- The placed units of a plan without breach fit their cells.
-use Rattle.std.proofs.Common.{ℕ, ◌≡◌, ◌≤◌, Bool, true, false, not, cond, ◌&&◌, ◌||◌, List, [], ◌∷◌, ◌++◌, length, Option, Some, None, is_some, refl, sym, ap, ◌∙◌, subst, inl, inr, ◌⊎◌}
+use Rattle.std.proofs.Common.{ℕ, ◌≡◌, ◌≤◌, Bool, true, false, not, cond, ◌&&◌, length, Option, Some, None, is_some, refl, sym, ap, ◌∙◌, subst, inl, inr}
 use Rattle.std.specs.Prelude.{slice_get}
 use Rattle.mig_base.specs.Among.{Among}
-use Rattle.mig_base.specs.declared.kinds.Kind.{Kind}
 use Rattle.mig_base.specs.declared.kinds.Mode.{Mode}
 use Rattle.mig_base.specs.declared.kinds.Mode.TheVariants.{Simple}
-use Rattle.mig_base.specs.declared.cells.Form.{Form}
 use Rattle.mig_base.specs.declared.cells.Form.TheVariants as form
-use Rattle.mig_base.specs.declared.circuit.Gate.{Gate}
-use Rattle.mig_base.specs.declared.circuit.Gate.TheVariants.{Product}
 use Rattle.mig_base.specs.declared.plans.Plan.{Plan}
 use Rattle.mig_base.specs.declared.plans.PlanChip.{PlanChip}
 use Rattle.mig_base.specs.declared.plans.Breach.TheVariants as breach
-use Rattle.mig_base.specs.declared.plans.Part.TheVariants.{Logic, Enable}
+use Rattle.mig_base.specs.declared.plans.Part.TheVariants.{Logic}
 use Rattle.mig_base.specs.DeviceTables.{is_22, is_v8, is_gal}
-use Rattle.mig_base.specs.WellFormed.{has_mode, has_form, has_inversions, is_simple, most_terms}
+use Rattle.mig_base.specs.WellFormed.{has_mode, is_simple, most_terms}
 use Rattle.structure.specs.Pure.{always_enabled}
 use Rattle.board.specs.Joined.{Joined, equations_of}
 use Rattle.new_board.specs.declared.types.PlacedUnit.{PlacedUnit}
@@ -24,7 +20,7 @@ use Rattle.new_board.proofs.WellMade.{IsFitBy}
 use Rattle.plans.specs.FirstOf.{Says}
 use Rattle.plans.specs.declared.placing.Placing.{Placing}
 use Rattle.plans.specs.Placings.{old, placings, absorbed_units}
-use Rattle.plans.specs.Forms.{AreRows, IsNewChip, LogicForm, Fits, Try, reads_absorbed, old_low, low_by, has_register, room_of, room_on, tries}
+use Rattle.plans.specs.Forms.{AreRows, IsNewChip, LogicForm, Fits, Try, reads_absorbed, old_low, has_register, room_of, tries}
 use Rattle.plans.specs.UnitBreaches.{is_out_of_mode, wrong_mode, wrong_phase}
 use Rattle.plans.specs.Breaches.{WrongMode, WrongPhase, all_rules, RuleGives, HasNoBreach}
 use Rattle.plans.proofs.Firsts.{none-each}

@@ -1,5 +1,5 @@
 -- The rows of placed units read nodes of the board, each by its own variable.
-use Rattle.std.proofs.Common.{ℕ, ◌≡◌, Bool, true, false, List, [], ◌∷◌, ◌++◌, map, Option, Some, None, refl, sym, ap, ◌∙◌, subst, inl, inr, ◌⊎◌, ◌+◌}
+use Rattle.std.proofs.Common.{ℕ, ◌≡◌, Bool, true, false, List, [], ◌∷◌, map, Option, Some, None, refl, sym, ap, ◌∙◌, subst, inl, inr, ◌⊎◌, ◌+◌}
 use Rattle.std.specs.Prelude.{slice_get}
 use Rattle.std.specs.List.{list_any, flat_map, filter_map}
 use Rattle.std.specs.Option.{option_map}
@@ -26,7 +26,7 @@ use Rattle.mig_base.specs.declared.plans.Part.{Part}
 use Rattle.mig_base.specs.declared.plans.Part.TheVariants.{Logic, Enable, Reset, Preset}
 use Rattle.mig_base.proofs.Amongs.{among-filter, among-get, among-node, among-split, any-among, among-map, map-among, both-among}
 use Rattle.mig_base.proofs.ReadLaws.{read-same}
-use Rattle.structure.specs.Products.{var_by, var_lit, product_over, sum_over, row_over, register_logic, register_preset, register_reset, logic_over, preset_over, reset_over, unit_products, part_of as unit_part_of}
+use Rattle.structure.specs.Products.{var_lit, product_over, sum_over, row_over, register_logic, register_preset, register_reset, logic_over, preset_over, reset_over, unit_products, part_of as unit_part_of}
 use Rattle.board.specs.Joined.{Joined, equations_of}
 use Rattle.board.specs.UnitLists.{register_units}
 use Rattle.board.specs.Variables.{read_of}

@@ -1,8 +1,7 @@
 -- Placed units: each on a macrocell pin of its chip, no two on one.
-use Rattle.std.proofs.Common.{ℕ, ◌≡◌, ◌+◌, Bool, true, false, not, cond, ◌&&◌, List, [], ◌∷◌, ◌++◌, map, Option, Some, None, refl, sym, ap, ◌∙◌, subst, inl, inr, ◌⊎◌, eqb, eqb-true, eq-eqb}
-use Rattle.std.specs.List.{list_any, filter, filter_map, cons_option}
-use Rattle.std.specs.Str.{bytes_eq}
-use Rattle.std.proofs.lemmas.Bool.{and_from, and_parts, not-true}
+use Rattle.std.proofs.Common.{ℕ, ◌≡◌, Bool, true, false, List, [], ◌∷◌, ◌++◌, Option, Some, None, refl, sym, ap, ◌∙◌, subst, inl, inr, eq-eqb}
+use Rattle.std.specs.List.{list_any}
+use Rattle.std.proofs.lemmas.Bool.{and_from}
 use Rattle.std.proofs.lemmas.Option.{same_Some}
 use Rattle.mig_base.specs.Among.{Among}
 use Rattle.mig_base.specs.declared.nets.PinName.{PinName}
@@ -11,21 +10,17 @@ use Rattle.mig_base.specs.declared.plans.PlanChip.{PlanChip}
 use Rattle.mig_base.specs.declared.plans.PlanLine.{PlanLine}
 use Rattle.mig_base.specs.declared.plans.PlanLine.TheVariants.{Place, Absorb}
 use Rattle.mig_base.specs.declared.plans.Breach.TheVariants as breach
-use Rattle.mig_base.specs.DeviceTables.{cell_pins}
-use Rattle.mig_base.specs.Given.{IsGiven}
-use Rattle.mig_base.specs.WrittenBoard.{are_distinct}
-use Rattle.mig_base.proofs.Amongs.{among-any, any-among}
+use Rattle.mig_base.proofs.Amongs.{among-any}
 use Rattle.mig_base.proofs.Distinct.{bytes-equal, same-refl, same-is}
 use Rattle.board.specs.Joined.{Joined}
 use Rattle.new_board.specs.NewChip.{or_option, when}
-use Rattle.new_board.proofs.Items.{among-unfilter, among-unfilter_map}
 use Rattle.plans.specs.FirstOf.{Says, behind}
 use Rattle.plans.specs.declared.placing.Placing.{Placing}
-use Rattle.plans.specs.Placings.{same_pin, unit_names, numbered_from, numbered_units, target_by, target_in, chip_named, placing_on, placing_at, placing_of, placings, is_on, placings_on}
-use Rattle.plans.specs.LineBreaches.{is_cell_of, has_no_cell, no_cell, takes_pin, pin_taken}
-use Rattle.plans.specs.Breaches.{NoCell, PinTaken, all_rules, RuleGives, HasNoBreach}
+use Rattle.plans.specs.Placings.{same_pin, target_by, target_in, chip_named, placing_on, placing_at, placing_of}
+use Rattle.plans.specs.LineBreaches.{takes_pin, pin_taken}
+use Rattle.plans.specs.Breaches.{PinTaken, all_rules, RuleGives, HasNoBreach}
 use Rattle.plans.proofs.Firsts.{none-each}
-use Rattle.fit.proofs.UnitNames.{pins-equal, unit-names-apart}
+use Rattle.fit.proofs.UnitNames.{pins-equal}
 use Rattle.fitted_cells.proofs.PlanRules.{fails, held, last-among}
 
 -- what is known of a placed unit

@@ -1,30 +1,23 @@
 -- What a plan without breach keeps: each placed unit is named by one line, on a chip of the plan that has its name alone.
-use Rattle.std.proofs.Common.{ℕ, zero, suc, ◌≡◌, ◌+◌, ◌<◌, Bool, true, false, not, cond, ◌&&◌, List, [], ◌∷◌, ◌++◌, map, Option, Some, None, refl, sym, ap, ◌∙◌, subst, inl, inr, ◌⊎◌, eqb, eqb-true, arith}
-use Rattle.std.specs.List.{list_any, filter_map, slice_get}
+use Rattle.std.proofs.Common.{ℕ, ◌≡◌, Bool, true, false, not, cond, List, [], ◌∷◌, ◌++◌, map, Some, refl, sym, ap, ◌∙◌, inl, inr, ◌⊎◌}
+use Rattle.std.specs.List.{list_any}
 use Rattle.std.specs.Str.{bytes_eq}
 use Rattle.std.proofs.lemmas.Bool.{and_from, and_parts, not-true}
 use Rattle.std.proofs.lemmas.Option.{same_Some}
 use Rattle.std.proofs.lemmas.Slice.Eq.{bytes_eq-Decides}
 use Rattle.mig_base.specs.Among.{Among}
-use Rattle.mig_base.specs.declared.nets.PinName.{PinName}
 use Rattle.mig_base.specs.declared.plans.Plan.{Plan}
 use Rattle.mig_base.specs.declared.plans.PlanChip.{PlanChip}
-use Rattle.mig_base.specs.declared.plans.PlanLine.{PlanLine}
-use Rattle.mig_base.specs.declared.plans.PlanLine.TheVariants.{Place, Absorb}
-use Rattle.mig_base.specs.declared.plans.Breach.{Breach}
 use Rattle.mig_base.specs.declared.plans.Breach.TheVariants as breach
-use Rattle.mig_base.specs.DeviceTables.{cell_pins}
 use Rattle.mig_base.specs.WrittenBoard.{are_distinct}
 use Rattle.mig_base.proofs.Amongs.{among-any, any-among, among-left, among-right, among-map, map-among}
 use Rattle.mig_base.proofs.Distinct.{bytes-equal, same-refl}
 use Rattle.board.specs.Joined.{Joined}
-use Rattle.new_board.specs.NewChip.{or_option, when}
-use Rattle.new_board.proofs.Items.{among-unfilter, among-unfilter_map}
-use Rattle.plans.specs.FirstOf.{NoneOf, Says, behind}
-use Rattle.plans.specs.declared.placing.Placing.{Placing}
-use Rattle.plans.specs.Placings.{same_pin, numbered_units, target_by, target_in, chip_named, placing_on, placing_at, placing_of, placings, is_on, placings_on}
-use Rattle.plans.specs.LineBreaches.{chip_twice, is_cell_of, has_no_cell, no_cell, takes_pin, pin_taken}
-use Rattle.plans.specs.Breaches.{Rule, ChipTwice, NoCell, PinTaken, all_rules, RuleGives, HasNoBreach}
+use Rattle.new_board.specs.NewChip.{when}
+use Rattle.plans.specs.FirstOf.{Says, behind}
+use Rattle.plans.specs.Placings.{chip_named}
+use Rattle.plans.specs.LineBreaches.{chip_twice}
+use Rattle.plans.specs.Breaches.{ChipTwice, all_rules, RuleGives, HasNoBreach}
 use Rattle.plans.proofs.Firsts.{none-each}
 
 -- a test that says nothing fails

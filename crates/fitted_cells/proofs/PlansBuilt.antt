@@ -1,18 +1,17 @@
 -- What a plan without breach makes is built well.
-use Rattle.std.proofs.Common.{ℕ, ◌≡◌, ◌+◌, ◌<◌, ◌≤◌, Bool, true, false, cond, List, [], ◌∷◌, map, length, Option, Some, None, refl, sym, ap, ◌∙◌, subst, eqb, eq-eqb, ltb, lt-ltb, ltb-true, arith, IsTrue}
-use Rattle.std.specs.List.{AllByRecursion, list_all, filter_map, cons_option}
+use Rattle.std.proofs.Common.{ℕ, ◌≡◌, ◌≤◌, Bool, true, false, cond, List, [], ◌∷◌, map, length, Option, Some, None, refl, sym, ap, ◌∙◌, subst, eqb, eq-eqb, ltb, arith, IsTrue}
+use Rattle.std.specs.List.{list_all, filter_map, cons_option}
 use Rattle.std.specs.Str.{bytes_eq}
 use Rattle.std.proofs.lemmas.Bool.{and_parts}
 use Rattle.std.proofs.lemmas.List.{length-map}
 use Rattle.std.proofs.lemmas.Option.{same_Some}
 use Rattle.mig_base.specs.Among.{Among}
-use Rattle.mig_base.specs.declared.kinds.Kind.{Kind}
 use Rattle.mig_base.specs.declared.plans.Plan.{Plan}
 use Rattle.mig_base.specs.declared.plans.PlanChip.{PlanChip}
 use Rattle.mig_base.specs.DeviceTables.{is_gal, ordinary_pins}
 use Rattle.mig_base.specs.Given.{IsGiven}
 use Rattle.mig_base.specs.Names.{is_name}
-use Rattle.mig_base.specs.WellFormed.{has_mode, IsWellFormed}
+use Rattle.mig_base.specs.WellFormed.{IsWellFormed}
 use Rattle.mig_base.specs.WrittenBoard.{are_distinct, is_part, IsWritable}
 use Rattle.mig_base.proofs.Amongs.{all-among, among-map, pass-all}
 use Rattle.mig_base.proofs.Distinct.{part-more}
@@ -74,9 +73,6 @@ wire-low b pin (Some n) w e = at (ltb n (private_from b.net)) refl e
     at true low e = ap (λ (v : PinNet). ltb v.net (private_from b.net)) (sym (same_Some (record { pin = pin; net = n }) w e)) ∙ low
 
 module _ (b : Joined) (p : Plan) (given : IsGiven b.net b.chips) (writable : IsWritable b.net) (plan : IsPlan p) (none : HasNoBreach b p) (chips : List NewChip) (are : AreNewChips b p chips) where
-  built : List FittedChip
-  built = fitted_chips b chips
-
   -- a fitted chip is that of a chip of the plan
   of-plan : (f : FittedChip) → Among f (fitted_chips b chips) → (c : PlanChip) × Among c p.chips × ((k : NewChip) × IsNewChip b p c k × (f ≡ fitted (old b) k))
   of-plan f a =

@@ -1,6 +1,5 @@
 -- The rows of the placed units read what their new chip's pins stand on.
-use Rattle.std.proofs.Common.{ℕ, ◌≡◌, ◌+◌, Bool, true, false, not, cond, ◌&&◌, ◌||◌, List, [], ◌∷◌, ◌++◌, Option, Some, None, is_some, refl, sym, ap, ◌∙◌, subst, inl, inr, ◌⊎◌, eqb, eqb-true}
-use Rattle.std.specs.Prelude.{slice_get}
+use Rattle.std.proofs.Common.{ℕ, ◌≡◌, Bool, true, false, not, cond, ◌&&◌, List, [], ◌∷◌, Option, Some, None, refl, sym, ap, ◌∙◌, subst, inl, inr, ◌⊎◌, eqb}
 use Rattle.std.specs.List.{list_any, flat_map}
 use Rattle.std.proofs.lemmas.Bool.{and_parts, not-true}
 use Rattle.mig_base.specs.Among.{Among}
@@ -11,7 +10,6 @@ use Rattle.mig_base.specs.declared.circuit.Circuit.{Circuit}
 use Rattle.mig_base.specs.declared.circuit.Gate.{Gate}
 use Rattle.mig_base.specs.declared.circuit.Gate.TheVariants.{Never, Product}
 use Rattle.mig_base.specs.declared.circuit.Literal.{Literal}
-use Rattle.mig_base.specs.declared.circuit.Read.{Read}
 use Rattle.mig_base.specs.DeviceTables.{pair_pins, enable_pin, is_v8, is_22}
 use Rattle.mig_base.specs.WellFormed.{has_mode}
 use Rattle.mig_base.specs.Structure.{same_read, all_variables}
@@ -20,12 +18,12 @@ use Rattle.mig_base.proofs.Amongs.{among-any, among-left, among-flat_map, among-
 use Rattle.mig_base.proofs.KindFacts.{every-kind}
 use Rattle.mig_base.proofs.ReadLaws.{same-read}
 use Rattle.new_board.specs.declared.types.PlacedUnit.{PlacedUnit}
-use Rattle.new_board.specs.NewChip.{OldBoard, NewChip, placed_register, first_registered, is_registered_unit, gate_products, comb_products, products_by, unit_products, control_products, chip_products, needed_variables}
+use Rattle.new_board.specs.NewChip.{OldBoard, NewChip, placed_register, first_registered, gate_products, comb_products, products_by, unit_products, control_products, chip_products, needed_variables}
 use Rattle.new_board.specs.InputPins.{first_unserved}
 use Rattle.new_board.proofs.Items.{among-filter}
 use Rattle.new_board.proofs.Columns.{IsReadable}
 use Rattle.new_board.proofs.Reading.{EnableApart}
-use Rattle.new_board.proofs.Serving.{IsOwnVariable, served-readable, served-all}
+use Rattle.new_board.proofs.Serving.{served-readable, served-all}
 use Rattle.fitted_cells.proofs.OwnReads.{IsOwn, ReadOwn}
 
 -- the rows of a unit are its terms and its enable

@@ -1,5 +1,5 @@
 -- The cells of placed units: their terms, forms, inversions and enables, by the rules that the plan keeps.
-use Rattle.std.proofs.Common.{ℕ, ◌≡◌, ◌≤◌, Bool, true, false, not, cond, ◌&&◌, ◌||◌, List, [], ◌∷◌, ◌++◌, length, Option, Some, None, is_some, refl, sym, ap, ◌∙◌, subst, inl, inr, ◌⊎◌}
+use Rattle.std.proofs.Common.{ℕ, ◌≡◌, Bool, true, false, not, ◌&&◌, ◌||◌, List, [], ◌∷◌, Option, Some, None, refl, sym, ap, ◌∙◌, subst, inl, inr}
 use Rattle.std.specs.Prelude.{slice_get}
 use Rattle.std.proofs.lemmas.Option.{same_Some}
 use Rattle.mig_base.specs.Among.{Among}
@@ -16,15 +16,15 @@ use Rattle.mig_base.specs.declared.circuit.Gives.{Gives}
 use Rattle.mig_base.specs.declared.circuit.Gives.TheVariants.{Sum, Visible}
 use Rattle.mig_base.specs.declared.circuit.Literal.{Literal}
 use Rattle.mig_base.specs.declared.plans.Part.TheVariants.{Enable}
-use Rattle.mig_base.specs.Structure.{variable_gate, variable_product}
+use Rattle.mig_base.specs.Structure.{variable_gate}
 use Rattle.mig_base.specs.DeviceTables.{is_22, is_v8, is_gal}
-use Rattle.mig_base.specs.WellFormed.{has_mode, has_form, has_inversions, is_simple}
+use Rattle.mig_base.specs.WellFormed.{has_mode, has_form, has_inversions}
 use Rattle.structure.specs.Pure.{is_always, always_enabled}
 use Rattle.structure.proofs.Sorting.{product-none}
 use Rattle.board.specs.Joined.{Joined, equations_of}
 use Rattle.new_board.specs.NewChip.{register_driven, register_given, unit_register, gate_products}
 use Rattle.new_board.specs.OneForOne.{old_giving, old_driving}
-use Rattle.plans.specs.Forms.{Products, part_of, old_products, read_absorbed, reads_absorbed, IsControlBy, IsControl, Try, Old, Direct, Inverse, low_by, tries_by}
+use Rattle.plans.specs.Forms.{Products, part_of, old_products, read_absorbed, reads_absorbed, IsControlBy, IsControl, Try, low_by, tries_by}
 use Rattle.plans.specs.UnitBreaches.{is_out_of_mode}
 
 -- tables of kinds and modes

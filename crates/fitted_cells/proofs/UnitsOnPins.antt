@@ -1,5 +1,5 @@
 -- The units of a new chip: each on a macrocell pin, and each the one on its pin.
-use Rattle.std.proofs.Common.{ℕ, ◌≡◌, ◌+◌, Bool, true, false, not, cond, ◌&&◌, List, [], ◌∷◌, map, Option, Some, None, refl, sym, ap, ◌∙◌, subst, inl, inr, ◌⊎◌, eqb, eqb-true, eq-eqb}
+use Rattle.std.proofs.Common.{ℕ, ◌≡◌, ◌+◌, Bool, true, false, not, cond, List, [], ◌∷◌, Option, Some, None, refl, sym, ap, ◌∙◌, subst, inl, inr, eqb, eqb-true, eq-eqb}
 use Rattle.std.specs.List.{list_any, filter, filter_map, cons_option}
 use Rattle.std.specs.Str.{bytes_eq}
 use Rattle.std.proofs.lemmas.Bool.{and_parts, not-true}
@@ -21,7 +21,7 @@ use Rattle.new_board.specs.NewChip.{unit_on}
 use Rattle.new_board.proofs.Items.{among-unfilter, among-unfilter_map}
 use Rattle.plans.specs.FirstOf.{Says, AreEach}
 use Rattle.plans.specs.declared.placing.Placing.{Placing}
-use Rattle.plans.specs.Placings.{same_pin, unit_names, numbered_from, numbered_units, chip_named, placing_of, placings, is_on, placings_on, absorbed_units}
+use Rattle.plans.specs.Placings.{same_pin, unit_names, numbered_from, numbered_units, chip_named, placing_of, placings, is_on, placings_on}
 use Rattle.plans.specs.LineBreaches.{is_cell_of, has_no_cell, no_cell}
 use Rattle.plans.specs.Forms.{AreRows}
 use Rattle.plans.specs.Breaches.{NoCell, all_rules, RuleGives, HasNoBreach}
