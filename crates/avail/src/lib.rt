@@ -12,7 +12,6 @@ mod needed_inputs;
 mod needs;
 mod old_board;
 mod planned;
-mod products;
 mod taking;
 mod variables;
 
@@ -22,7 +21,6 @@ pub use needed_inputs::inputs;
 pub use needs::{AvailError, ChipNeed, PinReads, PinUnit, VarPin};
 pub use old_board::Old;
 pub use planned::{PlannedChip, no_rows, unit_register};
-pub use products::variable_product;
 pub use taking::{Taken, first_unserved, pins_for};
 pub use variables::{same_bool, same_read};
 

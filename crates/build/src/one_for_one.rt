@@ -44,13 +44,7 @@ fn placed(alloc: Global, old: &Old, chip: u32) -> Result<Vec<PlacedUnit>, NoMemo
     for (number, unit) in old.units.as_slice().iter().enumerate() {
         if unit.chip == chip {
             let pin = unit.cell.pin;
-            placed.push(old_rows(
-                alloc,
-                old.circuit,
-                old.variables.as_slice(),
-                pin,
-                number as u32,
-            )?)?;
+            placed.push(old_rows(alloc, old.circuit, pin, number as u32)?)?;
         }
     }
     Ok(placed)

@@ -1,9 +1,9 @@
 -- Flags of pure registers and classes, one more at a time.
+use Rattle.std.proofs.Math.Bool.{or-true}
 use Rattle.std.proofs.Common.{ℕ, ◌≡◌, ◌⊎◌, ◌+◌, ◌-◌, ◌<◌, ◌≤◌, Bool, true, false, List, [], ◌∷◌, ◌++◌, length, get_or, replicate, set, refl, sym, ap, ◌∙◌, subst, arith, inl, inr}
 use Rattle.std.specs.Prelude.{◌||◌, nat_lt}
 use Rattle.std.proofs.lemmas.Bool.{cases_eq, cases_lt, lt-ltb, le-ltb}
 use Rattle.std.proofs.lemmas.List.{get_or_append_left, get_or-append-add, get_or_past, get_or_push, get_or-replicate, get_or-set_same, get_or-set_other, length-append, length-replicate, length-set}
-use Rattle.mig_base.proofs.ListLaws.{or-certain}
 use Rattle.mig_base.specs.declared.circuit.Circuit.{Circuit}
 use Rattle.mig_base.specs.declared.circuit.Read.TheVariants.{OfRegister}
 use Rattle.structure.specs.Pure.{IsPure}
@@ -130,7 +130,7 @@ marked-more pures classes n k pure bits marked is_k is_pure lt = record {
     at-no i (inr le) lt1 e =
         let is : i ≡ n = omega (arith, le, lt1) in
         ap (λ (m : ℕ). flag_at bits2 (class_at classes m)) is ∙ ap (flag_at bits2) is_k ∙ here
-        ∙ ap (λ (q : Bool). flag_at bits k || q) (sym is_pure ∙ ap (flag_at pures) (sym is) ∙ e) ∙ or-certain (flag_at bits k)
+        ∙ ap (λ (q : Bool). flag_at bits k || q) (sym is_pure ∙ ap (flag_at pures) (sym is) ∙ e) ∙ or-true (flag_at bits k)
 
 pub marked-none : (pures : List Bool) (classes : List ℕ) (n : ℕ) → n ≡ length classes → AreMarked pures classes 0 (replicate n false)
 marked-none pures classes n e = record {

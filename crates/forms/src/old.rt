@@ -1,5 +1,4 @@
 ghost use Rattle.std.specs.Prelude.{◌≡◌, [], map, slice_get, IfOk};
-ghost use Rattle.mig_base.specs.Structure.{variable_product as product_over};
 ghost use Rattle.board.specs.Joined.{equations_of};
 ghost use Rattle.new_board.specs.NewChip.{gate_products};
 ghost use Rattle.new_board.specs.OneForOne.{terms_over};
@@ -9,7 +8,7 @@ ghost use Rattle.forms.specs.OldParts.{logic_before, enable_before, reset_before
 use board::Board;
 use mig_base::{Circuit, Driver, Gate, Gives, Items, Literal, NoMemory, Part};
 use std::alloc::Global;
-use structure::all_variables;
+use structure::variable_product;
 
 /// Products over variables, as literals of the board's equations.
 pub type Products = Items<Items<Literal>>;
@@ -137,15 +136,4 @@ fn row(alloc: Global, circuit: &Circuit, gate: &Gate) -> Result<Products, NoMemo
         products.push(Items::new(variable_product(alloc, circuit, lits.items())?))?;
     }
     Ok(Items::new(products))
-}
-
-fn variable_product(
-    alloc: Global,
-    circuit: &Circuit,
-    lits: &[Literal],
-) -> Result<Vec<Literal>, NoMemory>
-    ensures { IfOk result (λ product. product.items ≡ product_over circuit.now lits.now) }
-{
-    let variables = all_variables(alloc, circuit)?;
-    avail::variable_product(alloc, circuit, variables.as_slice(), lits)
 }

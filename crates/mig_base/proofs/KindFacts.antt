@@ -5,8 +5,11 @@ use Rattle.std.specs.List.{list_all, slice_get}
 use Rattle.std.proofs.lemmas.Bool.{and_parts, leb-true}
 use Rattle.mig_base.specs.declared.kinds.Kind.{Kind}
 use Rattle.mig_base.specs.declared.kinds.Kind.TheVariants.{Pal16L8, Pal16R4, Pal16R6, Pal16R8, Pal20L8, Pal20R4, Pal20R6, Pal20R8, Gal16V8, Gal20V8, Gal22V10, Gal22V10Q}
-use Rattle.mig_base.specs.DeviceTables.{kind_name, kind_named, pins_of, ground_of, ordinary_pins, all_kinds}
+use Rattle.mig_base.specs.DeviceTables.{kind_name, kind_named, pins_of, ground_of, ordinary_pins, all_kinds, pair_pins}
 use Rattle.mig_base.specs.WrittenBoard.{are_distinct}
+use Rattle.mig_base.specs.Cells.{is_among}
+use Rattle.mig_base.specs.declared.kinds.Mode.{Mode}
+use Rattle.mig_base.specs.declared.kinds.Mode.TheVariants.{Fixed, Simple, Complex, Registered}
 
 pub member-passes : {T : Type 0} (p : T → Bool) (xs : List T) (j : ℕ) (x : T) → list_all p xs ≡ true → slice_get xs j ≡ Some x → p x ≡ true
 member-passes p [] j x h e = cc
@@ -59,3 +62,24 @@ kind-read Gal22V10Q = refl
 pub kind-name-length : (k : Kind) → length (kind_name k) ≤ 9
 kind-name-length Pal16L8 = lit≤ tt
 kind-name-length _ = lit≤ tt
+
+-- the pins of column pairs are no power pins
+pub pairs-ordinary : (kind : Kind) (mode : Mode) → list_all (is_among (ordinary_pins kind)) (pair_pins kind mode) ≡ true
+pairs-ordinary Pal16L8 mode = refl
+pairs-ordinary Pal16R4 mode = refl
+pairs-ordinary Pal16R6 mode = refl
+pairs-ordinary Pal16R8 mode = refl
+pairs-ordinary Pal20L8 mode = refl
+pairs-ordinary Pal20R4 mode = refl
+pairs-ordinary Pal20R6 mode = refl
+pairs-ordinary Pal20R8 mode = refl
+pairs-ordinary Gal16V8 Fixed = refl
+pairs-ordinary Gal16V8 Simple = refl
+pairs-ordinary Gal16V8 Complex = refl
+pairs-ordinary Gal16V8 Registered = refl
+pairs-ordinary Gal20V8 Fixed = refl
+pairs-ordinary Gal20V8 Simple = refl
+pairs-ordinary Gal20V8 Complex = refl
+pairs-ordinary Gal20V8 Registered = refl
+pairs-ordinary Gal22V10 mode = refl
+pairs-ordinary Gal22V10Q mode = refl

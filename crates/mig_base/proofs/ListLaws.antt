@@ -12,22 +12,6 @@ and-true true true e = (refl, refl)
 and-true true false e = cc
 and-true false b e = cc
 
-pub not-true : (b : Bool) → not b ≡ true → b ≡ false
-not-true true e = cc
-not-true false e = refl
-
-pub not-twice : (b : Bool) → not (not b) ≡ b
-not-twice true = refl
-not-twice false = refl
-
-pub or-unit : (b : Bool) → (b || false) ≡ b
-or-unit true = refl
-or-unit false = refl
-
-pub or-certain : (b : Bool) → (b || true) ≡ true
-or-certain true = refl
-or-certain false = refl
-
 pub or-false : (a b : Bool) → (a || b) ≡ false → b ≡ false
 or-false true b e = cc
 or-false false b e = e
@@ -169,9 +153,6 @@ pub get-past : {A : Type 0} (xs : List A) (i : ℕ) → slice_get xs i ≡ None 
 get-past [] i e = omega arith
 get-past (x ∷ xs) zero e = cc
 get-past (x ∷ xs) (suc i) e = omega (arith, get-past xs i e)
-
-pub snoc-append : {A : Type 0} (xs : List A) (y : A) (ys : List A) → (xs ++ y ∷ []) ++ ys ≡ xs ++ y ∷ ys
-snoc-append xs y ys = append_assoc xs (y ∷ []) ys
 
 pub rest-of : (xs : List ℕ) (k : ℕ) → take (length xs - k) (drop k xs) ≡ drop k xs
 rest-of xs k = let e : length xs - k ≡ length (drop k xs) = omega (arith, length-drop k xs) in ap (λ (n : ℕ). take n (drop k xs)) e ∙ take-length (drop k xs)

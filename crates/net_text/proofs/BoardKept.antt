@@ -1,5 +1,5 @@
 -- What each wiring that a text gives keeps.
-use Rattle.std.proofs.Common.{ℕ, ◌≡◌, ◌+◌, ◌<◌, ◌≤◌, Bool, true, false, cond, ◌&&◌, ◌||◌, List, [], ◌∷◌, ◌++◌, map, length, refl, sym, ap, ◌∙◌, subst, arith, Option, Some, None, length-append}
+use Rattle.std.proofs.Common.{ℕ, ◌≡◌, ◌+◌, ◌<◌, ◌≤◌, Bool, true, false, cond, ◌&&◌, ◌||◌, List, [], ◌∷◌, ◌++◌, map, length, refl, sym, ap, ◌∙◌, subst, arith, Option, Some, None, length-append, append_assoc}
 use Rattle.std.specs.Prelude.{not, nat_le, is_none, codes}
 use Rattle.std.specs.List.{AllByRecursion, list_any, cons_option}
 use Rattle.std.specs.Str.{bytes_eq}
@@ -19,7 +19,6 @@ use Rattle.mig_base.specs.First.{or_else, first_refusal}
 use Rattle.mig_base.specs.BoardText.{Says, Head, NetOf, ChipOf, PinOf, PullOf, End, Wrong, SaidLine, all_said, is_first, is_head, ends, refuse, said_refusal, line_refusal, nets_in, net_names, chips_in, place_named, pulls, is_version, cant_pull, is_input_port, pull_on, pull_in, net_said, chip_said}
 use Rattle.mig_base.specs.WrittenBoard.{are_distinct, is_pulled}
 use Rattle.mig_base.proofs.Distinct.{bytes-equal, same-sym, same-is, distinct-append}
-use Rattle.mig_base.proofs.ListLaws.{snoc-append}
 
 -- what lines keep that nothing refused
 pub record Keeps (ss : List Says) : Type 0 where
@@ -257,7 +256,7 @@ keeps-from before (l ∷ ls) k h =
     let one : (line_refusal before l ≡ None) × (first_refusal line_refusal (before ++ l ∷ []) ls ≡ None) = split (line_refusal before l) _ h in
     let two = none-refused (is_first before && not (is_head l.said)) (Line l.n) _ one.0 in
     let three = none-refused (list_any (λ b. ends b.said) before) (Line l.n) _ two.1 in
-    subst (λ (xs : List SaidLine). Keeps (all_said xs)) (snoc-append before l ls)
+    subst (λ (xs : List SaidLine). Keeps (all_said xs)) (append_assoc before (l ∷ []) ls)
     (keeps-from (before ++ l ∷ []) ls (subst Keeps (sym (map-append (λ x. x.said) before (l ∷ []))) (keeps-more l.n (all_said before) l.said three.1 k)) one.1)
   where
     split : (a b : Option NetError) → or_else a b ≡ None → (a ≡ None) × (b ≡ None)

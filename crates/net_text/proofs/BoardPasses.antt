@@ -23,7 +23,7 @@ use Rattle.mig_base.specs.BoardText.{Says, Head, PullOf, End, SaidLine, all_said
 use Rattle.mig_base.specs.WrittenBoard.{are_distinct, chip_name, net_name, is_pulled, same_place, place_of, board_places, IsWritable}
 use Rattle.mig_base.proofs.KindFacts.{is_proper}
 use Rattle.mig_base.proofs.Distinct.{bytes-equal, places-equal, distinct-before, distinct-behind, part-distinct, places-distinct}
-use Rattle.mig_base.proofs.ListLaws.{snoc-append, all-append}
+use Rattle.mig_base.proofs.ListLaws.{all-append}
 use Rattle.net_text.proofs.BoardSays.{net_says, pull_says_at, pull_says, chip_says, pin_says, version_of, board_says, said_from, IsWired, pins-wired, chip-name-is}
 use Rattle.net_text.proofs.BoardParts.{unpulled, none-passes, none-pulls, names-unpulled, first_two, first_three, first_four, first_five, two-nets, three-nets, five-nets, four-chips, five-chips, three-none, four-none, five-any, pins-of-pins, ends-of-pins, place-found, chip-found}
 
@@ -65,7 +65,7 @@ lines-pass before n (s ∷ ss) h =
 
 pub pass-append : (before xs ys : List Says) → AllPass before xs → AllPass (before ++ xs) ys → AllPass before (xs ++ ys)
 pass-append before [] ys hx hy = subst (λ (b : List Says). AllPass b ys) (append-nil before) hy
-pass-append before (x ∷ xs) ys hx hy = (hx.0, pass-append (before ++ x ∷ []) xs ys hx.1 (subst (λ (b : List Says). AllPass b ys) (sym (snoc-append before x xs)) hy))
+pass-append before (x ∷ xs) ys hx hy = (hx.0, pass-append (before ++ x ∷ []) xs ys hx.1 (subst (λ (b : List Says). AllPass b ys) (sym (append_assoc before (x ∷ []) xs)) hy))
 
 none-of : (a b : Bool) (e f : NetError) → a ≡ false → b ≡ false → or_else (refuse a e) (refuse b f) ≡ None
 none-of a b e f ha hb = ap (λ (t : Bool). or_else (refuse t e) (refuse b f)) ha ∙ ap (λ (t : Bool). refuse t f) hb
@@ -97,7 +97,7 @@ nets-pass net w done [] e = tt
 nets-pass net w done (l ∷ rest) e = (
   net-line-passes net w done l rest e,
   subst (λ (b : List Says). AllPass b (map net_says rest)) (ap (λ (ss : List Says). Head (version_of net) ∷ ss) (map_push net_says done l))
-      (nets-pass net w (done ++ l ∷ []) rest (e ∙ sym (snoc-append done l rest))),
+      (nets-pass net w (done ++ l ∷ []) rest (e ∙ sym (append_assoc done (l ∷ []) rest))),
 )
 
 -- a pulled net of a written board, among those before and behind it
@@ -223,7 +223,7 @@ pull-line-passes net w done l rest h d = record {
 
 pulls-pass : (net : Net) → IsWritable net → (done rest : List NetLine) → net.nets ≡ done ++ rest → AllPass (first_three net done) (filter_map pull_says rest)
 pulls-pass net w done [] e = tt
-pulls-pass net w done (l ∷ rest) e = at l.pull refl (pulls-pass net w (done ++ l ∷ []) rest (e ∙ sym (snoc-append done l rest)))
+pulls-pass net w done (l ∷ rest) e = at l.pull refl (pulls-pass net w (done ++ l ∷ []) rest (e ∙ sym (append_assoc done (l ∷ []) rest)))
   where
     more : (d : Pull) → l.pull ≡ d → first_three net (done ++ l ∷ []) ≡ first_two net net.nets ++ (filter_map pull_says done ++ cons_option (pull_says_at l.name d) [])
     more d k = ap (λ (ss : List Says). first_two net net.nets ++ ss) (filter_map-append pull_says done (l ∷ []) ∙ ap (λ (p : Pull). filter_map pull_says done ++ cons_option (pull_says_at l.name p) []) k)
@@ -262,7 +262,7 @@ chips-pass net w done [] e = tt
 chips-pass net w done (c ∷ rest) e = (
   chip-line-passes net w done c rest e,
   subst (λ (b : List Says). AllPass b (map chip_says rest)) (ap (λ (ss : List Says). first_three net net.nets ++ ss) (map_push chip_says done c) ∙ sym (append_assoc (first_three net net.nets) (map chip_says done) (chip_says c ∷ [])))
-      (chips-pass net w (done ++ c ∷ []) rest (e ∙ sym (snoc-append done c rest))),
+      (chips-pass net w (done ++ c ∷ []) rest (e ∙ sym (append_assoc done (c ∷ []) rest))),
 )
 
 length-names : (cs : List ChipLine) → length (map (λ c. c.name) cs) ≡ length cs
@@ -344,7 +344,7 @@ pins-pass net w done (l ∷ rest) e wired all = (
   pin-line-passes net w done l rest e wired all.0,
   subst (λ (b : List Says). AllPass b (map (pin_says net) rest))
       (ap (λ (ss : List Says). first_four net net.chips ++ ss) (map_push (pin_says net) done l) ∙ sym (append_assoc (first_four net net.chips) (map (pin_says net) done) (pin_says net l ∷ [])))
-      (pins-pass net w (done ++ l ∷ []) rest (e ∙ sym (snoc-append done l rest)) (all-append (IsWired net) done (l ∷ []) wired (all.0, tt)) all.1),
+      (pins-pass net w (done ++ l ∷ []) rest (e ∙ sym (append_assoc done (l ∷ []) rest)) (all-append (IsWired net) done (l ∷ []) wired (all.0, tt)) all.1),
 )
 
 end-passes : (net : Net) → Passes (first_five net net.pins) End

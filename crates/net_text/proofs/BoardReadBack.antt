@@ -21,7 +21,6 @@ use Rattle.mig_base.specs.First.{or_else, unless}
 use Rattle.mig_base.specs.BoardText.{Says, End, SaidLine, all_said, ends, refuse, text_refusal, nets_in, net_names, names_of_nets, chips_in, has_pin, pulls, net_on, net_at, pins_in, pull_on, pull_in, with_pull, net_in, net_of_text, net_said, chip_said}
 use Rattle.mig_base.specs.WrittenBoard.{are_distinct, is_part, Place, same_place, place_of, board_places, chip_name, written_net, IsWritable}
 use Rattle.mig_base.proofs.Distinct.{bytes-equal, places-equal, same-sym, same-refl, same-is, part-any, places-distinct}
-use Rattle.mig_base.proofs.ListLaws.{snoc-append}
 use Rattle.net_text.proofs.BoardSays.{net_says, pull_says_at, pull_says, chip_says, pin_says, board_says, said_from, said-written, IsWired, pins-wired, chip-name-is}
 use Rattle.net_text.proofs.BoardParts.{unpulled, none-passes, names-unpulled, first_two, first_three, first_four, first_five, five-nets, five-chips, four-none, pins-of-pins, place-found}
 use Rattle.net_text.proofs.BoardPasses.{lines-pass, board-passes, apart-before, apart-behind, not-pulled-yet, same-chip, chip-within}
@@ -75,7 +74,7 @@ nets-back : (net : Net) → IsWritable net → (done rest : List NetLine) → ne
 nets-back net w done [] e = refl
 nets-back net w done (l ∷ rest) e =
     ap (λ (p : Pull). let m : NetLine = record { name = l.name; port = l.port; pull = p } in m ∷ map (with_pull (board_says net)) (map unpulled rest)) (pull-back net w done l rest e)
-    ∙ ap (λ (ms : List NetLine). l ∷ ms) (nets-back net w (done ++ l ∷ []) rest (e ∙ sym (snoc-append done l rest)))
+    ∙ ap (λ (ms : List NetLine). l ∷ ms) (nets-back net w (done ++ l ∷ []) rest (e ∙ sym (append_assoc done (l ∷ []) rest)))
 
 -- pins
 
@@ -127,7 +126,7 @@ pins-by-place net w done (c ∷ cs) e =
     ap (λ (n : List ℕ). filter_map (λ p. option_map (line_at (length done, p)) (net_at (board_says net) (names_of_nets (board_says net)) n p)) (ordinary_pins c.kind) ++ pins_in (board_says net) (length done + 1) cs) (sym name)
     ∙ ap (λ (ls : List PinLine). ls ++ pins_in (board_says net) (length done + 1) cs) (chip-back net w (length done) within (ordinary_pins c.kind))
     ∙ ap (λ (ls : List PinLine). filter_map (line_of_place net.pins) (map (λ p. (length done, p)) (ordinary_pins c.kind)) ++ ls)
-    (subst (λ (j : ℕ). pins_in (board_says net) j cs ≡ filter_map (line_of_place net.pins) (board_places j cs)) (length_push done c) (pins-by-place net w (done ++ c ∷ []) cs (e ∙ sym (snoc-append done c cs))))
+    (subst (λ (j : ℕ). pins_in (board_says net) j cs ≡ filter_map (line_of_place net.pins) (board_places j cs)) (length_push done c) (pins-by-place net w (done ++ c ∷ []) cs (e ∙ sym (append_assoc done (c ∷ []) cs))))
     ∙ sym (filter_map-append (line_of_place net.pins) (map (λ p. (length done, p)) (ordinary_pins c.kind)) (board_places (length done + 1) cs))
   where
     there : (ds : List ChipLine) → slice_get (ds ++ c ∷ cs) (length ds) ≡ Some c

@@ -1,5 +1,5 @@
 -- What the lines of a written board say.
-use Rattle.std.proofs.Common.{ℕ, zero, suc, ◌≡◌, ◌+◌, ◌<◌, ◌≤◌, Bool, true, false, cond, ◌&&◌, List, [], ◌∷◌, ◌++◌, map, length, refl, ap, ◌∙◌, subst, arith, Option, Some, None, get_or}
+use Rattle.std.proofs.Common.{ℕ, zero, suc, ◌≡◌, ◌+◌, ◌<◌, ◌≤◌, Bool, true, false, cond, ◌&&◌, List, [], ◌∷◌, ◌++◌, map, length, refl, ap, ◌∙◌, subst, arith, Option, Some, None, get_or, append_assoc}
 use Rattle.std.specs.Prelude.{nat_le, nat_lt, codes}
 use Rattle.std.specs.List.{AllByRecursion, list_any, list_all, filter_map, slice_get, cons_option}
 use Rattle.std.specs.Fmt.{decimal}
@@ -26,7 +26,7 @@ use Rattle.text_lines.proofs.Numerals.{number-decimal, decimal-spells, IsDigit}
 use Rattle.text_lines.proofs.WrittenLines.{is_plain_word, is_plain_line, numbered, lines-written}
 use Rattle.text_lines.proofs.PlainWords.{name-plain, kind-plain}
 use Rattle.mig_base.proofs.Distinct.{part-all, places-equal}
-use Rattle.mig_base.proofs.ListLaws.{all-append, all-each, snoc-append}
+use Rattle.mig_base.proofs.ListLaws.{all-append, all-each}
 
 abbrev pub net_says : NetLine → Says
 net_says l = NetOf l.name l.port
@@ -68,7 +68,7 @@ places-of done [] = tt
 places-of done (c ∷ cs) =
     all-append (IsOf (done ++ c ∷ cs)) (map (λ p. (length done, p)) (ordinary_pins c.kind)) (board_places (length done + 1) cs)
     (here (ordinary_pins c.kind) (ordinary-proper c.kind))
-    (subst (λ (cs' : List ChipLine). AllByRecursion (IsOf cs') (board_places (length done + 1) cs)) (snoc-append done c cs)
+    (subst (λ (cs' : List ChipLine). AllByRecursion (IsOf cs') (board_places (length done + 1) cs)) (append_assoc done (c ∷ []) cs)
     (subst (λ (j : ℕ). AllByRecursion (IsOf ((done ++ c ∷ []) ++ cs)) (board_places j cs)) (length_push done c) (places-of (done ++ c ∷ []) cs)))
   where
     here : (ps : List ℕ) → list_all (is_proper c.kind) ps ≡ true → AllByRecursion (IsOf (done ++ c ∷ cs)) (map (λ p. (length done, p)) ps)

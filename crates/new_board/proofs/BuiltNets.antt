@@ -90,7 +90,7 @@ none-kept b news test none = false_from_ne_true _ (λ e.
     cc)
 
 -- two constants before names
-constants-apart : (same : List ℕ → List ℕ → Bool) (g v : List ℕ) (old new : List (List ℕ)) → are_distinct same (g ∷ v ∷ old) ≡ true → are_distinct same new ≡ true →
+pub constants-apart : (same : List ℕ → List ℕ → Bool) (g v : List ℕ) (old new : List (List ℕ)) → are_distinct same (g ∷ v ∷ old) ≡ true → are_distinct same new ≡ true →
     ((test : List ℕ → Bool) → list_any test old ≡ false → list_any test new ≡ false) → are_distinct same (g ∷ v ∷ new) ≡ true
 constants-apart same g v old new d e none =
     let first = and_parts (not (list_any (same g) (v ∷ old))) (are_distinct same (v ∷ old)) d in
@@ -99,7 +99,7 @@ constants-apart same g v old new d e none =
     and_from (not (list_any (same g) (v ∷ new))) (are_distinct same (v ∷ new)) (ap (λ (q : Bool). not q) (or_from (same g v) (list_any (same g) new) ground.0 (none (same g) ground.1)))
     (and_from (not (list_any (same v) new)) (are_distinct same new) (ap (λ (q : Bool). not q) (none (same v) (not-true _ second.0))) e)
 
-old-distinct : (same : List ℕ → List ℕ → Bool) (g v : List ℕ) (old : List (List ℕ)) → are_distinct same (g ∷ v ∷ old) ≡ true → are_distinct same old ≡ true
+pub old-distinct : (same : List ℕ → List ℕ → Bool) (g v : List ℕ) (old : List (List ℕ)) → are_distinct same (g ∷ v ∷ old) ≡ true → are_distinct same old ≡ true
 old-distinct same g v old d = distinct-behind same (g ∷ v ∷ []) old d
 
 -- the kept nets have different names

@@ -10,33 +10,8 @@ use Rattle.mig_base.specs.Values.{literal_value, product_value}
 use Rattle.mig_base.specs.Among.{Among}
 use Rattle.mig_base.proofs.ListLaws.{both-ways}
 use Rattle.mig_base.proofs.Amongs.{any-among, among-any, pass-all}
+use Rattle.mig_base.proofs.LevelFacts.{is_zero, is_one, by_tests, and-tests}
 use Rattle.new_board.proofs.Items.{all-pass}
-
-abbrev is_zero : Level → Bool
-is_zero Zero = true
-is_zero _ = false
-
-abbrev is_one : Level → Bool
-is_one One = true
-is_one _ = false
-
--- 0 where one literal is 0, 1 where all are 1, else X
-abbrev by_tests : Bool → Bool → Level
-by_tests true all = Zero
-by_tests false true = One
-by_tests false false = X
-
-and-tests : (a : Level) (any all : Bool) → and3 a (by_tests any all) ≡ by_tests (is_zero a || any) (is_one a && all)
-and-tests Zero any all = refl
-and-tests One true all = refl
-and-tests One false true = refl
-and-tests One false false = refl
-and-tests Z true all = refl
-and-tests Z false true = refl
-and-tests Z false false = refl
-and-tests X true all = refl
-and-tests X false true = refl
-and-tests X false false = refl
 
 product-tests : (l : Levels) (xs : List Literal) →
     product_value l xs ≡ by_tests (list_any (λ x. is_zero (literal_value l x)) xs) (list_all (λ x. is_one (literal_value l x)) xs)

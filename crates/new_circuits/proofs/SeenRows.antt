@@ -26,6 +26,7 @@ use Rattle.mig_base.specs.Structure.{alias_of, or_alias, variable_by, variable_l
 use Rattle.mig_base.specs.Values.{product_reads}
 use Rattle.mig_base.proofs.Amongs.{among-all, among-map, map-among}
 use Rattle.mig_base.proofs.ListLaws.{item-at}
+use Rattle.mig_base.proofs.KindFacts.{pairs-ordinary}
 use Rattle.board.specs.Joined.{Joined, equations_of}
 use Rattle.new_board.specs.declared.types.PlacedUnit.{PlacedUnit}
 use Rattle.new_board.specs.NewChip.{NewChip, net_literal, placed_register, read_by, register_on, unit_on, unit_register}
@@ -54,27 +55,6 @@ place-found q (r ∷ rs) h = at (same_at q r) refl h (place-found q rs)
       where
         next : place_of q rs + 1 ≡ suc (place_of q rs)
         next = omega arith
-
--- the pins of column pairs are no power pins
-pairs-ordinary : (kind : Kind) (mode : Mode) → list_all (is_among (ordinary_pins kind)) (pair_pins kind mode) ≡ true
-pairs-ordinary Pal16L8 mode = refl
-pairs-ordinary Pal16R4 mode = refl
-pairs-ordinary Pal16R6 mode = refl
-pairs-ordinary Pal16R8 mode = refl
-pairs-ordinary Pal20L8 mode = refl
-pairs-ordinary Pal20R4 mode = refl
-pairs-ordinary Pal20R6 mode = refl
-pairs-ordinary Pal20R8 mode = refl
-pairs-ordinary Gal16V8 Fixed = refl
-pairs-ordinary Gal16V8 Simple = refl
-pairs-ordinary Gal16V8 Complex = refl
-pairs-ordinary Gal16V8 Registered = refl
-pairs-ordinary Gal20V8 Fixed = refl
-pairs-ordinary Gal20V8 Simple = refl
-pairs-ordinary Gal20V8 Complex = refl
-pairs-ordinary Gal20V8 Registered = refl
-pairs-ordinary Gal22V10 mode = refl
-pairs-ordinary Gal22V10Q mode = refl
 
 pair-ordinary : (kind : Kind) (mode : Mode) (pin : ℕ) → Among pin (pair_pins kind mode) → Among pin (ordinary_pins kind)
 pair-ordinary kind mode pin a = pin-among (ordinary_pins kind) pin (all-pass (is_among (ordinary_pins kind)) pin (pair_pins kind mode) (pairs-ordinary kind mode) a)

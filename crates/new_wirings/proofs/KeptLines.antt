@@ -14,6 +14,7 @@ use Rattle.mig_base.specs.Boards.{places_from, is_port}
 use Rattle.mig_base.specs.WrittenBoard.{are_distinct}
 use Rattle.mig_base.proofs.Distinct.{bytes-equal, same-sym, distinct-behind}
 use Rattle.mig_base.proofs.Amongs.{among-split, among-get, map-among, among-map, among-any, any-among, among-all, pass-all}
+use Rattle.new_board.proofs.BuiltNets.{constants-apart, old-distinct}
 use Rattle.new_board.specs.NewFiles.{kept_numbers, new_net, stands_on}
 use Rattle.new_board.specs.declared.types.FittedChip.{FittedChip}
 use Rattle.new_board.proofs.Items.{all-pass, among-unfilter, among-unfilter_map}
@@ -117,19 +118,6 @@ none-kept net chips test none = false_from_ne_true _ (λ e.
     among-any test line.0.name (map (λ (l : NetLine). l.name) net.nets) (map-among (λ (l : NetLine). l.name) line.0 net.nets (line-old net chips line.0 line.1)) (ap test (sym line.2) ∙ name.2) in
     let wrong : true ≡ false = sym there ∙ none in
     cc)
-
--- two constants before names
-constants-apart : (same : List ℕ → List ℕ → Bool) (g v : List ℕ) (old new : List (List ℕ)) → are_distinct same (g ∷ v ∷ old) ≡ true → are_distinct same new ≡ true →
-    ((test : List ℕ → Bool) → list_any test old ≡ false → list_any test new ≡ false) → are_distinct same (g ∷ v ∷ new) ≡ true
-constants-apart same g v old new d e none =
-    let first = and_parts (not (list_any (same g) (v ∷ old))) (are_distinct same (v ∷ old)) d in
-    let second = and_parts (not (list_any (same v) old)) (are_distinct same old) first.1 in
-    let ground = or_parts (same g v) (list_any (same g) old) (not-true _ first.0) in
-    and_from (not (list_any (same g) (v ∷ new))) (are_distinct same (v ∷ new)) (ap (λ (q : Bool). not q) (or_from (same g v) (list_any (same g) new) ground.0 (none (same g) ground.1)))
-    (and_from (not (list_any (same v) new)) (are_distinct same new) (ap (λ (q : Bool). not q) (none (same v) (not-true _ second.0))) e)
-
-old-distinct : (same : List ℕ → List ℕ → Bool) (g v : List ℕ) (old : List (List ℕ)) → are_distinct same (g ∷ v ∷ old) ≡ true → are_distinct same old ≡ true
-old-distinct same g v old d = distinct-behind same (g ∷ v ∷ []) old d
 
 -- the kept nets have different names
 pub lines-distinct : (net : Net) (chips : List FittedChip) → are_distinct bytes_eq (net_names net.nets) ≡ true → are_distinct bytes_eq (net_names (new_net net chips).nets) ≡ true

@@ -23,36 +23,11 @@ use Rattle.placed_boards.specs.Places.Named.{itself, behind}
 use Rattle.placed_boards.specs.Rows.{seen_literal, IsSeenAs, AreSeenAs, IsGateSeenAs, AreRows, gate_rows, gate_terms, AreOfBoard}
 use Rattle.fitting_levels.proofs.Fitting.{and-known}
 use Rattle.mig_base.proofs.Amongs.{among-left, among-right, among-split, among-flat_map, among-map, map-among, any-among, among-any, filter-among, pass-all, product-among}
-use Rattle.mig_base.proofs.LevelFacts.{inverted-twice}
+use Rattle.mig_base.proofs.LevelFacts.{inverted-twice, not3-twice, is_zero, is_one, by_tests, and-tests}
 use Rattle.mig_base.proofs.ListLaws.{both-ways}
 use Rattle.mig_base.proofs.ReadLaws.{same-literal}
 
 -- the value of a product depends on the values of its literals alone
-
-abbrev is_zero : Level → Bool
-is_zero Zero = true
-is_zero _ = false
-
-abbrev is_one : Level → Bool
-is_one One = true
-is_one _ = false
-
-abbrev by_tests : Bool → Bool → Level
-by_tests true all = Zero
-by_tests false true = One
-by_tests false false = X
-
-and-tests : (a : Level) (any all : Bool) → and3 a (by_tests any all) ≡ by_tests (is_zero a || any) (is_one a && all)
-and-tests Zero any all = refl
-and-tests One true all = refl
-and-tests One false true = refl
-and-tests One false false = refl
-and-tests Z true all = refl
-and-tests Z false true = refl
-and-tests Z false false = refl
-and-tests X true all = refl
-and-tests X false true = refl
-and-tests X false false = refl
 
 product-tests : (f : NodeLevels) (xs : List Literal) → product_by f xs ≡ by_tests (list_any (λ x. is_zero (literal_by f x)) xs) (list_all (λ x. is_one (literal_by f x)) xs)
 product-tests f [] = refl
@@ -101,12 +76,6 @@ or-none X h = refl
 
 -- variables
 
-not-twice : (a : Level) → a ≢ Z → not3 (not3 a) ≡ a
-not-twice Zero h = refl
-not-twice One h = refl
-not-twice Z h = absurd (h refl)
-not-twice X h = refl
-
 -- a literal has the level of that of its variable
 pub variable-level : (c : Circuit) (absorbed : List ℕ) (f : NodeLevels) (x : Literal) → AreFitting c absorbed f → literal_by f (variable_literal c x) ≡ literal_by f x
 variable-level c absorbed f x fit = by x.source refl
@@ -114,7 +83,7 @@ variable-level c absorbed f x fit = by x.source refl
     by_alias : (n : ℕ) (o : Option (ℕ × Bool)) → alias_of c n ≡ o → x.source ≡ OfNet n → literal_by f (or_alias o x) ≡ literal_by f x
     by_alias n None e is = refl
     by_alias n (Some a) e is =
-        inverted-twice x.high a.1 (f (OfRegister a.0)) (not-twice (f (OfRegister a.0)) (fit.driven (OfRegister a.0)))
+        inverted-twice x.high a.1 (f (OfRegister a.0)) (not3-twice (f (OfRegister a.0)) (fit.driven (OfRegister a.0)))
         ∙ ap (λ s. cond x.high s (not3 s)) (sym (fit.aliases n a e))
         ∙ ap (λ s. cond x.high (f s) (not3 (f s))) (sym is)
 

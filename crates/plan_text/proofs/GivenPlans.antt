@@ -1,5 +1,5 @@
 -- The plan of lines that nothing refuses is one that can be written.
-use Rattle.std.proofs.Common.{ℕ, ◌≡◌, ◌+◌, ◌<◌, ◌≤◌, Bool, true, false, cond, ◌&&◌, eqb, List, [], ◌∷◌, ◌++◌, map, length, refl, sym, ap, ◌∙◌, subst, arith, take, drop, Option, Some, None, length-append}
+use Rattle.std.proofs.Common.{ℕ, ◌≡◌, ◌+◌, ◌<◌, ◌≤◌, Bool, true, false, cond, ◌&&◌, eqb, List, [], ◌∷◌, ◌++◌, map, length, refl, sym, ap, ◌∙◌, subst, arith, take, drop, Option, Some, None, length-append, append_assoc}
 use Rattle.std.specs.Prelude.{not, nat_le, codes}
 use Rattle.std.specs.List.{list_all, cons_option, position}
 use Rattle.std.specs.Option.{option_and_then}
@@ -20,7 +20,6 @@ use Rattle.mig_base.specs.First.{or_else, first_refusal}
 use Rattle.mig_base.specs.Lines.{TextLine, text_lines, number_of}
 use Rattle.mig_base.specs.Names.{is_name}
 use Rattle.mig_base.specs.WellFormed.{has_mode}
-use Rattle.mig_base.proofs.ListLaws.{snoc-append}
 use Rattle.plan_text.specs.declared.says.Said.{Said}
 use Rattle.plan_text.specs.declared.says.Said.TheVariants.{Head, Chip, OtherKind, Place, Absorb, End, Wrong}
 use Rattle.plan_text.specs.declared.lines.SaidLine.{SaidLine}
@@ -211,7 +210,7 @@ few-all : (before lines : List SaidLine) → AreFew before → first_refusal lin
 few-all before [] few h = subst AreFew (sym (append-nil before)) few
 few-all before (l ∷ lines) few h =
     let both = none-of (line_refusal before l) (first_refusal line_refusal (before ++ l ∷ []) lines) h in
-    subst AreFew (snoc-append before l lines) (few-all (before ++ l ∷ []) lines (few-more before l few both.0) both.1)
+    subst AreFew (append_assoc before (l ∷ []) lines) (few-all (before ++ l ∷ []) lines (few-more before l few both.0) both.1)
 
 -- a text whose lines nothing refuses gives a plan that can be written
 pub accepted-plan : (bytes : List ℕ) → first_refusal line_refusal [] (said_lines bytes) ≡ None → IsPlan (plan_in (said_lines bytes))

@@ -19,7 +19,7 @@ use Rattle.mig_base.specs.Resolve.{resolved}
 use Rattle.mig_base.specs.Structure.{alias_of, or_alias, variable_by, variable_literal}
 use Rattle.mig_base.specs.Values.{source_level, literal_value, inverted, row_value}
 use Rattle.mig_base.proofs.Aliases.{alias-is, inner, IsAlias}
-use Rattle.mig_base.proofs.LevelFacts.{inverted-twice}
+use Rattle.mig_base.proofs.LevelFacts.{inverted-twice, not3-twice}
 use Rattle.level_laws.specs.Settled.{IsSettled, gated, drive_level, gives_level, level_by, visible_levels}
 use Rattle.level_laws.proofs.Unique.{level_at-map}
 use Rattle.level_laws.proofs.ClockLevels.{net-settled}
@@ -47,12 +47,6 @@ one-driver pull X h = refl
 low-literal : (low : Bool) (v : Level) → inverted low v ≡ cond (not low) v (not3 v)
 low-literal true v = refl
 low-literal false v = refl
-
-not-twice : (a : Level) → a ≢ Z → not3 (not3 a) ≡ a
-not-twice Zero h = refl
-not-twice One h = refl
-not-twice Z h = absurd (h refl)
-not-twice X h = refl
 
 module _ (c : Circuit) (stored inputs : List Level) (l : Levels) (accepted : IsAccepted c) (settled : IsSettled c stored inputs l) where
   pub register-known : (k : ℕ) → level_at l.visible k ≢ Z
@@ -88,7 +82,7 @@ module _ (c : Circuit) (stored inputs : List Level) (l : Levels) (accepted : IsA
       by_alias : (n : ℕ) (o : Option (ℕ × Bool)) → alias_of c n ≡ o → x.source ≡ OfNet n → literal_value l (or_alias o x) ≡ literal_value l x
       by_alias n None e is = refl
       by_alias n (Some a) e is =
-          inverted-twice x.high a.1 (level_at l.visible a.0) (not-twice (level_at l.visible a.0) (register-known a.0))
+          inverted-twice x.high a.1 (level_at l.visible a.0) (not3-twice (level_at l.visible a.0) (register-known a.0))
           ∙ ap (λ (s : Level). cond x.high s (not3 s)) (sym (alias-level n a e))
           ∙ ap (λ (s : Read). cond x.high (source_level l s) (not3 (source_level l s))) (sym is)
 

@@ -15,28 +15,8 @@ use Rattle.mig_base.specs.Among.{Among}
 use Rattle.mig_base.specs.Cells.{is_among, lit_of, pair_columns}
 use Rattle.mig_base.specs.DeviceTables.{ordinary_pins, pair_pins, enable_pin, even_reads_q}
 use Rattle.mig_base.specs.WellFormed.{chip_columns, fits_row, registers_in, rises_in, same_lit}
+use Rattle.mig_base.proofs.KindFacts.{pairs-ordinary}
 use Rattle.devices.proofs.RowLaws.{same_lit-eq}
-
--- the pins of column pairs are no power pins
-pairs-ordinary : (kind : Kind) (mode : Mode) → list_all (is_among (ordinary_pins kind)) (pair_pins kind mode) ≡ true
-pairs-ordinary Pal16L8 mode = refl
-pairs-ordinary Pal16R4 mode = refl
-pairs-ordinary Pal16R6 mode = refl
-pairs-ordinary Pal16R8 mode = refl
-pairs-ordinary Pal20L8 mode = refl
-pairs-ordinary Pal20R4 mode = refl
-pairs-ordinary Pal20R6 mode = refl
-pairs-ordinary Pal20R8 mode = refl
-pairs-ordinary Gal16V8 Fixed = refl
-pairs-ordinary Gal16V8 Simple = refl
-pairs-ordinary Gal16V8 Complex = refl
-pairs-ordinary Gal16V8 Registered = refl
-pairs-ordinary Gal20V8 Fixed = refl
-pairs-ordinary Gal20V8 Simple = refl
-pairs-ordinary Gal20V8 Complex = refl
-pairs-ordinary Gal20V8 Registered = refl
-pairs-ordinary Gal22V10 mode = refl
-pairs-ordinary Gal22V10Q mode = refl
 
 pub enable-ordinary : (kind : Kind) → is_among (ordinary_pins kind) (enable_pin kind) ≡ true
 enable-ordinary Pal16L8 = refl

@@ -4,7 +4,7 @@ use Rattle.std.specs.Prelude.{codes, not, ◌||◌, if◌then◌else◌, slice_g
 use Rattle.std.specs.List.{list_any}
 use Rattle.std.specs.Option.{option_map}
 use Rattle.std.specs.Str.{bytes_eq}
-use Rattle.std.proofs.lemmas.Bool.{and_parts, and_from, or_parts}
+use Rattle.std.proofs.lemmas.Bool.{and_parts, and_from, or_parts, not-true}
 use Rattle.std.proofs.lemmas.List.{length-map}
 use Rattle.std.proofs.lemmas.Option.{slice_get-map, get_or_from_slice_get}
 use Rattle.mig_base.specs.declared.levels.Level.{Level}
@@ -16,7 +16,6 @@ use Rattle.mig_base.specs.BoardText.{place_named}
 use Rattle.mig_base.specs.Boards.{is_handed, is_port}
 use Rattle.mig_base.specs.Levels.{or_x}
 use Rattle.mig_base.specs.WrittenBoard.{are_distinct, IsWritable}
-use Rattle.mig_base.proofs.ListLaws.{not-true}
 use Rattle.mig_base.proofs.Distinct.{bytes-equal, distinct-behind, same-refl, same-sym}
 use Rattle.level_laws.specs.SameBehaviour.{SamePorts, handed_levels, port_names, shown_at}
 use Rattle.trials.specs.Differences.{port_name}
