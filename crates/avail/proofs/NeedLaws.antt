@@ -3,6 +3,7 @@ use Rattle.std.proofs.Common.{ℕ, ◌≡◌, ◌==◌, Bool, true, false, not, 
 use Rattle.std.specs.Prelude.{filter, option_and_then}
 use Rattle.std.specs.List.{list_any}
 use Rattle.std.specs.Option.{option_map}
+use Rattle.mig_base.specs.First.{or_else}
 use Rattle.mig_base.specs.declared.circuit.Circuit.{Circuit}
 use Rattle.mig_base.specs.declared.circuit.Read.{Read}
 use Rattle.mig_base.specs.Among.{Among}
@@ -10,7 +11,7 @@ use Rattle.mig_base.specs.DeviceTables.{pair_pins, ordinary_pins, clock_pin, ena
 use Rattle.board.specs.Joined.{Joined}
 use Rattle.board.specs.Variables.{read_of}
 use Rattle.new_board.specs.declared.types.PlacedUnit.{PlacedUnit}
-use Rattle.new_board.specs.NewChip.{OldBoard, NewChip, unit_on, placed_register, placed_clock, register_on, is_registered_unit, first_of, first_registered, clock_net, or_option, when, unit_net, enable_net, fixed_net, read_by, is_literal_of, is_read_at, is_read, needed_variables}
+use Rattle.new_board.specs.NewChip.{OldBoard, NewChip, unit_on, placed_register, placed_clock, register_on, is_registered_unit, first_of, first_registered, clock_net, when, unit_net, enable_net, fixed_net, read_by, is_literal_of, is_read_at, is_read, needed_variables}
 use Rattle.new_board.specs.InputPins.{Taken, wire_for, is_free, free_pins, take_pins, stood, anywhere, has_pin, input_at, input_pins}
 use Rattle.avail.specs.ServedVariables.{wanting, pins_for, pin_net_by, pin_reads_by, reading_pin_by, is_served_by, first_unserved_by}
 use Rattle.avail.specs.declared.needs.ChipNeed.{ChipNeed}
@@ -62,11 +63,11 @@ bare-fixed b chip pin apart a =
     let unit : option_and_then (λ (x : PlacedUnit). unit_net b x.unit) (unit_on (map stripped chip.units) pin) ≡ option_and_then (λ (x : PlacedUnit). unit_net b x.unit) (unit_on chip.units pin) =
     ap (option_and_then (λ (x : PlacedUnit). unit_net b x.unit)) (bare-unit_on chip.units pin) ∙ by-unit (λ (x : PlacedUnit). unit_net b x.unit) (λ x. refl) (unit_on chip.units pin) in
     let enable = bare-enable b chip (is_v8 chip.kind && (pin == enable_pin chip.kind)) (apart pin a) in
-    ap (λ (o : Option ℕ). or_option o (or_option (when (pin == clock_pin chip.kind) (clock_net b.circuit (bare chip)))
+    ap (λ (o : Option ℕ). or_else o (or_else (when (pin == clock_pin chip.kind) (clock_net b.circuit (bare chip)))
     (when (is_v8 chip.kind && (pin == enable_pin chip.kind)) (option_and_then (λ (x : PlacedUnit). enable_net b x.enable) (first_registered b.circuit (bare chip)))))) unit
-    ∙ ap (λ (o : Option ℕ). or_option (option_and_then (λ (x : PlacedUnit). unit_net b x.unit) (unit_on chip.units pin)) (or_option (when (pin == clock_pin chip.kind) o)
+    ∙ ap (λ (o : Option ℕ). or_else (option_and_then (λ (x : PlacedUnit). unit_net b x.unit) (unit_on chip.units pin)) (or_else (when (pin == clock_pin chip.kind) o)
     (when (is_v8 chip.kind && (pin == enable_pin chip.kind)) (option_and_then (λ (x : PlacedUnit). enable_net b x.enable) (first_registered b.circuit (bare chip)))))) (bare-clock b.circuit chip)
-    ∙ ap (λ (o : Option ℕ). or_option (option_and_then (λ (x : PlacedUnit). unit_net b x.unit) (unit_on chip.units pin)) (or_option (when (pin == clock_pin chip.kind) (clock_net b.circuit chip)) o)) enable
+    ∙ ap (λ (o : Option ℕ). or_else (option_and_then (λ (x : PlacedUnit). unit_net b x.unit) (unit_on chip.units pin)) (or_else (when (pin == clock_pin chip.kind) (clock_net b.circuit chip)) o)) enable
 
 -- tests that agree on the items of a list
 any-agree : {T : Type 0} (f g : T → Bool) (xs : List T) → ((x : T) → Among x xs → f x ≡ g x) → list_any f xs ≡ list_any g xs
@@ -110,7 +111,7 @@ bare-reading : (b : OldBoard) (chip : NewChip) (taken : List Taken) (v : Read) �
 bare-reading b chip taken v apart =
     ap first_of (filter-agree (λ pin. is_literal_of v (pin_reads_by b (bare chip) taken pin)) (λ pin. is_literal_of v (pin_reads_by b chip taken pin)) (pair_pins chip.kind chip.mode) (λ pin a.
     ap (λ (o : Option ℕ). is_literal_of v (read_by b.circuit o (pin_net_by b (bare chip) taken pin))) (bare-register_on b.circuit chip pin)
-    ∙ ap (λ (o : Option ℕ). is_literal_of v (read_by b.circuit (register_on b.circuit chip pin) (or_option o (option_and_then (wire_for b) (input_at taken pin))))) (bare-fixed b chip pin apart a)))
+    ∙ ap (λ (o : Option ℕ). is_literal_of v (read_by b.circuit (register_on b.circuit chip pin) (or_else o (option_and_then (wire_for b) (input_at taken pin))))) (bare-fixed b chip pin apart a)))
 
 -- what is said of a need is what is said of a chip that has it
 pub need-of-chip : (b : Joined) (need : ChipNeed) (chip : NewChip) → HasNeed b need chip → IsOfChip b need chip

@@ -1,9 +1,10 @@
 -- The input pins of a new chip by the variables that it needs, and what its pins read with them.
 use Rattle.std.specs.Prelude.{ℕ, not, ◌&&◌, ◌||◌, Bool, List, [], filter, Option, is_some, option_and_then}
+use Rattle.mig_base.specs.First.{or_else}
 use Rattle.mig_base.specs.declared.circuit.Read.{Read}
 use Rattle.mig_base.specs.declared.circuit.Literal.{Literal}
 use Rattle.mig_base.specs.DeviceTables.{pair_pins}
-use Rattle.new_board.specs.NewChip.{OldBoard, NewChip, fixed_net, register_on, or_option, read_by, is_literal_of, is_read, first_of}
+use Rattle.new_board.specs.NewChip.{OldBoard, NewChip, fixed_net, register_on, read_by, is_literal_of, is_read, first_of}
 use Rattle.new_board.specs.InputPins.{Taken, wire_for, free_pins, has_pin, take_pins, stood, anywhere, input_at}
 
 -- those of these variables that take an input pin: not read already, and to be wired
@@ -18,7 +19,7 @@ pins_for b chip needed =
 
 -- the net that a pin stands on, with these input pins
 abbrev pub pin_net_by : OldBoard → NewChip → List Taken → ℕ → Option ℕ
-pin_net_by b chip taken pin = or_option (fixed_net b chip pin) (option_and_then (wire_for b) (input_at taken pin))
+pin_net_by b chip taken pin = or_else (fixed_net b chip pin) (option_and_then (wire_for b) (input_at taken pin))
 
 -- what the columns of a pin read
 abbrev pub pin_reads_by : OldBoard → NewChip → List Taken → ℕ → Option Literal

@@ -1,7 +1,8 @@
 ghost use Rattle.std.specs.Prelude.{◌≡◌, ◌==◌, ◌&&◌, option_and_then};
 ghost use Rattle.std.specs.List.{list_any};
 ghost use Rattle.mig_base.specs.DeviceTables.{pair_pins as pins_of_pairs, enable_pin as enable_pin_of, clock_pin, is_v8 as v8};
-ghost use Rattle.new_board.specs.NewChip.{unit_net, unit_on, enable_net as net_enabling, clock_net, first_registered, fixed_net, register_on, read_by as literal_by, is_literal_of as literal_is_of, is_read_at, is_read, or_option, when};
+ghost use Rattle.mig_base.specs.First.{or_else};
+ghost use Rattle.new_board.specs.NewChip.{unit_net, unit_on, enable_net as net_enabling, clock_net, first_registered, fixed_net, register_on, read_by as literal_by, is_literal_of as literal_is_of, is_read_at, is_read, when};
 ghost use Rattle.avail.specs.ServedVariables.{pin_net_by, pin_reads_by, reading_pin_by};
 
 use crate::old_board::{Old, net_level};
@@ -76,7 +77,7 @@ impl<'a> ChipNets<'a> {
 
     /// The net of a pin by which the chip's registered units are clocked or enabled.
     fn control_net(&self, pin: u8) -> Option<u32>
-        ensures { result ≡ or_option (when (pin == clock_pin self.now.chip.now.kind) (clock_net self.now.old.now.circuit self.now.chip.now))
+        ensures { result ≡ or_else (when (pin == clock_pin self.now.chip.now.kind) (clock_net self.now.old.now.circuit self.now.chip.now))
             (when (v8 self.now.chip.now.kind && (pin == enable_pin_of self.now.chip.now.kind))
             (option_and_then (λ x. net_enabling self.now.old.now x.enable) (first_registered self.now.old.now.circuit self.now.chip.now))) }
     {

@@ -1,7 +1,7 @@
 ghost use Rattle.std.specs.Prelude.{◌≡◌, ◌<◌, ◌≤◌, ◌^◌, nat_lt, slice_get, length, IfOk, IfSome};
 ghost use Rattle.mig_base.specs.Boards.{circuit as circuit_of};
-ghost use Rattle.mig_base.specs.Structure.{alias_of as net_alias};
-ghost use Rattle.new_board.specs.NewChip.{unit_net, alias_net, is_register_of, net_literal, net_of_complement, is_complement_of, private_from, can_stand, has_no_driver};
+ghost use Rattle.mig_base.specs.Structure.{alias_of as net_alias, has_no_driver};
+ghost use Rattle.new_board.specs.NewChip.{unit_net, alias_net, is_register_of, net_literal, net_of_complement, is_complement_of, private_from, can_stand};
 ghost use Rattle.new_board.specs.InputPins.{wire_for, chip_from, stood_on};
 ghost use Rattle.new_board.specs.NewFiles.{wire_at as wire_on};
 ghost use Rattle.new_board.specs.OneForOne.{old_board};

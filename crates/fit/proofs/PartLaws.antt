@@ -2,13 +2,14 @@
 use Rattle.std.proofs.Common.{ℕ, ◌≡◌, ◌⊎◌, Bool, true, false, ◌||◌, List, [], ◌∷◌, Option, Some, None, refl, subst, inl, inr}
 use Rattle.std.specs.Option.{option_map}
 use Rattle.mig_base.specs.Among.{Among}
+use Rattle.mig_base.specs.First.{or_else}
 use Rattle.mig_base.specs.declared.plans.Part.{Part}
 use Rattle.mig_base.specs.declared.plans.Part.TheVariants as part
 use Rattle.mig_base.specs.declared.plans.Breach.{Breach}
 use Rattle.mig_base.specs.declared.plans.Breach.TheVariants as breach
 use Rattle.board.specs.Joined.{Joined}
 use Rattle.joiner.specs.Joined.{unit_part}
-use Rattle.new_board.specs.NewChip.{or_option, when}
+use Rattle.new_board.specs.NewChip.{when}
 use Rattle.plans.specs.FirstOf.{Gives, GivesFirst}
 use Rattle.plans.specs.declared.placing.Placing.{Placing}
 use Rattle.plans.specs.Forms.{Products, Try, Room, IsOffered, tries, IsCovered, IsControlBy, IsControl, reads_absorbed, room_of}
@@ -65,7 +66,7 @@ module _ (b : Joined) (absorbed : List ℕ) (x : Placing) where
   form-width room (form.TermsOver needed) h = unwide part.Logic (λ n k. logic-narrow b absorbed x.unit room h.least.form (Some h.least.products) n h.least.allowed h.least.offered k)
 
   -- the first part of some that has too many variables
-  first-behind : (q : Part) (qs : List Part) (o rest : Option ℕ) → Gives Wide q (named o) → GivesFirst Wide qs (named rest) → GivesFirst Wide (q ∷ qs) (named (or_option o rest))
+  first-behind : (q : Part) (qs : List Part) (o rest : Option ℕ) → Gives Wide q (named o) → GivesFirst Wide qs (named rest) → GivesFirst Wide (q ∷ qs) (named (or_else o rest))
   first-behind q qs None rest h k = first-next Wide q qs h (named rest) k
   first-behind q qs (Some n) rest h k = first-here Wide q qs (breach.ConeWide x.name n) h
 
@@ -79,8 +80,8 @@ module _ (b : Joined) (absorbed : List ℕ) (x : Placing) where
 
   pub wide-gives : (parts : UnitParts) → AreParts b absorbed x parts → Gives (GivesConeWide b absorbed) x (wide_breach x parts)
   wide-gives parts h = as-first (named (width_of parts))
-      (first-behind part.Logic controls (form_width parts.logic) (or_option (control_width parts.enable) (or_option (control_width parts.reset) (control_width parts.preset))) (form-width (room_of b x) parts.logic h.logic)
-      (first-behind part.Enable (part.Reset ∷ part.Preset ∷ []) (control_width parts.enable) (or_option (control_width parts.reset) (control_width parts.preset)) (control-width part.Enable parts.enable h.enable)
+      (first-behind part.Logic controls (form_width parts.logic) (or_else (control_width parts.enable) (or_else (control_width parts.reset) (control_width parts.preset))) (form-width (room_of b x) parts.logic h.logic)
+      (first-behind part.Enable (part.Reset ∷ part.Preset ∷ []) (control_width parts.enable) (or_else (control_width parts.reset) (control_width parts.preset)) (control-width part.Enable parts.enable h.enable)
       (first-behind part.Reset (part.Preset ∷ []) (control_width parts.reset) (control_width parts.preset) (control-width part.Reset parts.reset h.reset)
       (last-part part.Preset (control_width parts.preset) (control-width part.Preset parts.preset h.preset)))))
 

@@ -1,12 +1,13 @@
 -- The parts of placed units, and what stands in them.
 use Rattle.std.specs.Prelude.{ℕ, ◌≡◌, Bool, true, false, not, ◌||◌, List, Option, Some, None, is_none}
 use Rattle.std.specs.Option.{option_map}
+use Rattle.mig_base.specs.First.{or_else}
 use Rattle.mig_base.specs.declared.plans.Plan.{Plan}
 use Rattle.mig_base.specs.declared.plans.Part.TheVariants.{Enable, Reset, Preset}
 use Rattle.mig_base.specs.declared.plans.Breach.{Breach}
 use Rattle.mig_base.specs.declared.plans.Breach.TheVariants as breach
 use Rattle.board.specs.Joined.{Joined}
-use Rattle.new_board.specs.NewChip.{OldBoard, or_option, when, enable_net}
+use Rattle.new_board.specs.NewChip.{OldBoard, when, enable_net}
 use Rattle.plans.specs.FirstOf.{AreEach}
 use Rattle.plans.specs.declared.placing.Placing.{Placing}
 use Rattle.plans.specs.Placings.{placings, absorbed_units}
@@ -71,7 +72,7 @@ AreFirstParts b p x (Some parts) = HasFirstParts b p x parts
 
 -- the number of variables of the first part that has too many
 abbrev pub width_of : UnitParts → Option ℕ
-width_of parts = or_option (form_width parts.logic) (or_option (control_width parts.enable) (or_option (control_width parts.reset) (control_width parts.preset)))
+width_of parts = or_else (form_width parts.logic) (or_else (control_width parts.enable) (or_else (control_width parts.reset) (control_width parts.preset)))
 
 -- the breach of a unit with such a part
 abbrev pub wide_breach : Placing → UnitParts → Option Breach

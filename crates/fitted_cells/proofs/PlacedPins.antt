@@ -4,6 +4,7 @@ use Rattle.std.specs.List.{list_any}
 use Rattle.std.proofs.lemmas.Bool.{and_from}
 use Rattle.std.proofs.lemmas.Option.{same_Some}
 use Rattle.mig_base.specs.Among.{Among}
+use Rattle.mig_base.specs.First.{or_else}
 use Rattle.mig_base.specs.declared.nets.PinName.{PinName}
 use Rattle.mig_base.specs.declared.plans.Plan.{Plan}
 use Rattle.mig_base.specs.declared.plans.PlanChip.{PlanChip}
@@ -13,7 +14,7 @@ use Rattle.mig_base.specs.declared.plans.Breach.TheVariants as breach
 use Rattle.mig_base.proofs.Amongs.{among-any}
 use Rattle.mig_base.proofs.Distinct.{bytes-equal, same-refl, same-is}
 use Rattle.board.specs.Joined.{Joined}
-use Rattle.new_board.specs.NewChip.{or_option, when}
+use Rattle.new_board.specs.NewChip.{when}
 use Rattle.plans.specs.FirstOf.{Says, behind}
 use Rattle.plans.specs.declared.placing.Placing.{Placing}
 use Rattle.plans.specs.Placings.{same_pin, target_by, target_in, chip_named, placing_on, placing_at, placing_of}
@@ -56,7 +57,7 @@ pub target-line : (lines : List PlanLine) (name t : PinName) → target_in lines
 target-line [] name t e = cc
 target-line (l ∷ ls) name t e = at (target_by name l) refl e (target-line ls name t)
   where
-    at : (o : Option PinName) → target_by name l ≡ o → or_option o (target_in ls name) ≡ Some t → (target_in ls name ≡ Some t → (unit : PinName) × Among (Place unit t.chip t.pin) ls) →
+    at : (o : Option PinName) → target_by name l ≡ o → or_else o (target_in ls name) ≡ Some t → (target_in ls name ≡ Some t → (unit : PinName) × Among (Place unit t.chip t.pin) ls) →
         (unit : PinName) × Among (Place unit t.chip t.pin) (l ∷ ls)
     at None is k more = let rest = more k in (rest.0, inr rest.1)
     at (Some s) is k more = let by = target-by name l t (is ∙ k) in (by.0, inl (sym by.1))
@@ -84,7 +85,7 @@ targets-apart before (l ∷ ls) n m t none e k = at (target_by n l) (target_by m
         let by = target-by o l t (is ∙ e) in
         behind-apart before ls by.0 w t (subst (λ (z : PlanLine). NoneTaken before (z ∷ ls)) by.1 none) k
 
-    at : (o q : Option PinName) → target_by n l ≡ o → target_by m l ≡ q → or_option o (target_in ls n) ≡ Some t → or_option q (target_in ls m) ≡ Some t →
+    at : (o q : Option PinName) → target_by n l ≡ o → target_by m l ≡ q → or_else o (target_in ls n) ≡ Some t → or_else q (target_in ls m) ≡ Some t →
         (target_in ls n ≡ Some t → target_in ls m ≡ Some t → n ≡ m) → n ≡ m
     at None None is js e k rest = rest e k
     at None (Some s) is js e k rest = absurd (here m (Some s) js k n e)

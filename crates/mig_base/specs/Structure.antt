@@ -88,3 +88,8 @@ variable_gate c (Product lits) = Product (variable_product c lits)
 -- the variables that stand in these products, in variable order
 abbrev pub variables_in : Circuit → List (List Literal) → List Read
 variables_in c products = filter (λ v. list_any (λ lits. list_any (λ x. same_read x.source v) lits) products) (all_variables c)
+
+-- a net that is there and has no driver
+abbrev pub has_no_driver : Option Wire → Bool
+has_no_driver None = false
+has_no_driver (Some w) = length w.drivers == 0

@@ -3,6 +3,7 @@ use Rattle.std.proofs.Common.{ℕ, ◌≡◌, Bool, true, false, not, ◌&&◌, 
 use Rattle.std.specs.Prelude.{option_and_then}
 use Rattle.std.specs.List.{list_any}
 use Rattle.std.proofs.lemmas.Bool.{and_parts, not-true}
+use Rattle.mig_base.specs.First.{or_else}
 use Rattle.mig_base.specs.declared.kinds.Kind.{Kind}
 use Rattle.mig_base.specs.declared.circuit.Read.{Read}
 use Rattle.mig_base.specs.Among.{Among}
@@ -12,7 +13,7 @@ use Rattle.mig_base.specs.Structure.{same_read, variable_of}
 use Rattle.mig_base.proofs.ReadLaws.{read-same, same-read}
 use Rattle.mig_base.proofs.Amongs.{any-among, among-any}
 use Rattle.new_board.specs.declared.types.PlacedUnit.{PlacedUnit}
-use Rattle.new_board.specs.NewChip.{OldBoard, NewChip, unit_on, register_on, placed_register, unit_net, clock_net, enable_net, first_registered, fixed_net, or_option, when, net_literal, read_by, is_literal_of, is_read, is_read_at, needed_variables}
+use Rattle.new_board.specs.NewChip.{OldBoard, NewChip, unit_on, register_on, placed_register, unit_net, clock_net, enable_net, first_registered, fixed_net, when, net_literal, read_by, is_literal_of, is_read, is_read_at, needed_variables}
 use Rattle.new_board.specs.InputPins.{wire_for, is_free, free_pins, input_variables, input_pins, input_at, stood, stood_on, chip_from, anywhere, take_pins, pin_net, pin_reads, reading_pin}
 use Rattle.new_board.proofs.Items.{among-filter, among-unfilter}
 use Rattle.new_board.proofs.Columns.{among-first}
@@ -28,7 +29,7 @@ read-readable b chip v e =
     let found = any-among (is_read_at b chip v) (pair_pins chip.kind chip.mode) e in
     reading-some b chip v found.0 found.1 (at (register_on b.circuit chip found.0) (fixed_net b chip found.0) _ found.2)
   where
-    at : (k fixed other : Option ℕ) → is_literal_of v (read_by b.circuit k fixed) ≡ true → is_literal_of v (read_by b.circuit k (or_option fixed other)) ≡ true
+    at : (k fixed other : Option ℕ) → is_literal_of v (read_by b.circuit k fixed) ≡ true → is_literal_of v (read_by b.circuit k (or_else fixed other)) ≡ true
     at (Some k) fixed other e = e
     at None None other e = cc
     at None (Some n) other e = e
@@ -86,8 +87,8 @@ free-fixed b chip pin apart f =
     let clock = when (eqb pin (clock_pin chip.kind)) (clock_net b.circuit chip) in
     let enabled = λ (o : Option PlacedUnit). when (is_v8 chip.kind && eqb pin (enable_pin chip.kind)) (option_and_then (λ x. enable_net b x.enable) o) in
     let enable = enabled (first_registered b.circuit chip) in
-    ap (λ (o : Option PlacedUnit). or_option (option_and_then (λ x. unit_net b x.unit) o) (or_option clock enable)) f.no_unit
-    ∙ ap (λ (o : Option ℕ). or_option o enable) (when-not (eqb pin (clock_pin chip.kind)) (clock_net b.circuit chip) f.no_clock)
+    ap (λ (o : Option PlacedUnit). or_else (option_and_then (λ x. unit_net b x.unit) o) (or_else clock enable)) f.no_unit
+    ∙ ap (λ (o : Option ℕ). or_else o enable) (when-not (eqb pin (clock_pin chip.kind)) (clock_net b.circuit chip) f.no_clock)
     ∙ when-none (is_v8 chip.kind && eqb pin (enable_pin chip.kind)) (option_and_then (λ x. enable_net b x.enable) (first_registered b.circuit chip))
     (λ e. ap (option_and_then (λ x. enable_net b x.enable)) (apart.none pin f.column e))
 
@@ -131,7 +132,7 @@ stood-readable b chip v n apart s w a =
     let taking = input-taking b chip in
     let free = free-pin b chip first.0 (taking.within (v, first.0) placed) in
     let there : pin_net b chip first.0 ≡ Some n =
-    ap (λ (o : Option ℕ). or_option o (option_and_then (wire_for b) (input_at (input_pins b chip) first.0))) (free-fixed b chip first.0 apart free)
+    ap (λ (o : Option ℕ). or_else o (option_and_then (wire_for b) (input_at (input_pins b chip) first.0))) (free-fixed b chip first.0 apart free)
     ∙ ap (option_and_then (wire_for b)) (taking.found (v, first.0) placed) ∙ w.wire in
     let reads : is_literal_of v (pin_reads b chip first.0) ≡ true =
     ap (λ (o : Option PlacedUnit). is_literal_of v (read_by b.circuit (option_and_then (placed_register b.circuit) o) (pin_net b chip first.0))) free.no_unit

@@ -2,6 +2,7 @@
 use Rattle.std.proofs.Common.{ℕ, ◌≡◌, Bool, true, false, not, ◌&&◌, ◌||◌, List, [], ◌∷◌, Option, Some, None, is_some, refl, sym, ap, ◌∙◌, subst, inl, inr, ◌⊎◌, eqb-true}
 use Rattle.std.specs.Prelude.{option_and_then}
 use Rattle.std.proofs.lemmas.Bool.{and_parts}
+use Rattle.mig_base.specs.First.{or_else}
 use Rattle.mig_base.specs.declared.circuit.Read.{Read}
 use Rattle.mig_base.specs.declared.circuit.Read.TheVariants.{OfNet, OfRegister}
 use Rattle.mig_base.specs.declared.circuit.Circuit.{Circuit}
@@ -10,7 +11,7 @@ use Rattle.mig_base.specs.Structure.{same_read, variable_of, alias_of, or_alias}
 use Rattle.mig_base.proofs.Amongs.{among-any, among-split}
 use Rattle.mig_base.proofs.ReadLaws.{same-read}
 use Rattle.new_board.specs.declared.types.PlacedUnit.{PlacedUnit}
-use Rattle.new_board.specs.NewChip.{OldBoard, NewChip, placed_register, is_read, net_literal, read_by, is_literal_of, is_register_of, can_stand, when, or_option, first_of, needed_variables}
+use Rattle.new_board.specs.NewChip.{OldBoard, NewChip, placed_register, is_read, net_literal, read_by, is_literal_of, is_register_of, can_stand, when, first_of, needed_variables}
 use Rattle.new_board.specs.InputPins.{Taken, wire_for, free_pins, input_variables, input_pins, input_at, has_pin, take_pins, stood, anywhere, pin_net, pin_reads, reading_pin, is_served, first_unserved}
 use Rattle.new_board.proofs.Items.{among-filter, among-unfilter, filter-none}
 use Rattle.new_board.proofs.Columns.{first-among}
@@ -78,7 +79,7 @@ input-readable b chip v apart own e =
     let taking = input-taking b chip in
     let free = free-pin b chip placed.0 (taking.within (v, placed.0) placed.1) in
     let there : pin_net b chip placed.0 ≡ Some wire.0 =
-    ap (λ (o : Option ℕ). or_option o (option_and_then (wire_for b) (input_at (input_pins b chip) placed.0))) (free-fixed b chip placed.0 apart free)
+    ap (λ (o : Option ℕ). or_else o (option_and_then (wire_for b) (input_at (input_pins b chip) placed.0))) (free-fixed b chip placed.0 apart free)
     ∙ ap (option_and_then (wire_for b)) (taking.found (v, placed.0) placed.1) ∙ wire.1 in
     let reads : is_literal_of v (pin_reads b chip placed.0) ≡ true =
     ap (λ (o : Option PlacedUnit). is_literal_of v (read_by b.circuit (option_and_then (placed_register b.circuit) o) (pin_net b chip placed.0))) free.no_unit

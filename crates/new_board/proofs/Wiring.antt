@@ -4,6 +4,7 @@ use Rattle.std.specs.List.{filter_map, cons_option, slice_get}
 use Rattle.std.specs.Option.{option_map}
 use Rattle.std.proofs.lemmas.Bool.{and_parts, cases_eq}
 use Rattle.std.proofs.lemmas.Option.{same_Some}
+use Rattle.mig_base.specs.First.{or_else}
 use Rattle.mig_base.specs.declared.nets.Net.{Net}
 use Rattle.mig_base.specs.declared.nets.ChipLine.{ChipLine}
 use Rattle.mig_base.specs.declared.nets.PinLine.{PinLine}
@@ -17,7 +18,7 @@ use Rattle.mig_base.specs.DeviceTables.{ordinary_pins}
 use Rattle.mig_base.specs.Boards.{At, same_at, place_of, line_at, pins_from, privates, or_private, net_of, ChipUnit, places_from, kinds_from, kinds_of, wires_from, drives}
 use Rattle.mig_base.proofs.PlaceLaws.{length-kinds_from}
 use Rattle.mig_base.proofs.Amongs.{map-among, among-left, among-right}
-use Rattle.new_board.specs.NewChip.{OldBoard, private_from, or_option}
+use Rattle.new_board.specs.NewChip.{OldBoard, private_from}
 use Rattle.new_board.specs.NewFiles.{wire_at, new_number, new_pins_from}
 use Rattle.new_board.specs.declared.types.PinNet.{PinNet}
 use Rattle.new_board.specs.declared.types.FittedChip.{FittedChip}
@@ -134,15 +135,15 @@ abbrev chip_pin : List ℕ → ℕ → PinNet → PinLine
 chip_pin kept j w = record { chip = j; pin = w.pin; net = new_number kept w.net }
 
 line-chip : (kept : List ℕ) (j : ℕ) (ws : List PinNet) (rest : List PinLine) (pin : ℕ) →
-    line_at (map (chip_pin kept j) ws ++ rest) (j, pin) ≡ or_option (option_map (new_number kept) (wire_on ws pin)) (line_at rest (j, pin))
+    line_at (map (chip_pin kept j) ws ++ rest) (j, pin) ≡ or_else (option_map (new_number kept) (wire_on ws pin)) (line_at rest (j, pin))
 line-chip kept j [] rest pin = refl
 line-chip kept j (w ∷ ws) rest pin =
     ap (λ (q : Bool). cond (q && eqb pin w.pin) (Some (new_number kept w.net)) (line_at (map (chip_pin kept j) ws ++ rest) (j, pin))) (eq-eqb j j refl)
     ∙ at (eqb pin w.pin) (line-chip kept j ws rest pin)
   where
-    at : (q : Bool) → line_at (map (chip_pin kept j) ws ++ rest) (j, pin) ≡ or_option (option_map (new_number kept) (wire_on ws pin)) (line_at rest (j, pin)) →
+    at : (q : Bool) → line_at (map (chip_pin kept j) ws ++ rest) (j, pin) ≡ or_else (option_map (new_number kept) (wire_on ws pin)) (line_at rest (j, pin)) →
         cond q (Some (new_number kept w.net)) (line_at (map (chip_pin kept j) ws ++ rest) (j, pin))
-        ≡ or_option (option_map (new_number kept) (cond q (Some w.net) (wire_on ws pin))) (line_at rest (j, pin))
+        ≡ or_else (option_map (new_number kept) (cond q (Some w.net) (wire_on ws pin))) (line_at rest (j, pin))
     at true e = refl
     at false e = e
 
@@ -158,7 +159,7 @@ line-before kept start k [] pin h = refl
 line-before kept start k (f ∷ fs) pin h =
     line-other kept start k f.wires (new_pins_from kept (start + 1) fs) pin (λ e. omega arith) ∙ line-before kept (start + 1) k fs pin (omega arith)
 
-or-none : {T : Type 0} (o : Option T) → or_option o None ≡ o
+or-none : {T : Type 0} (o : Option T) → or_else o None ≡ o
 or-none None = refl
 or-none (Some x) = refl
 
@@ -171,7 +172,7 @@ new-line kept start zero j (g ∷ fs) f pin e at =
     let is : j ≡ start = omega arith in
     ap (λ (k : ℕ). line_at (new_pins_from kept start (g ∷ fs)) (k, pin)) is
     ∙ line-chip kept start g.wires (new_pins_from kept (start + 1) fs) pin
-    ∙ ap (or_option (option_map (new_number kept) (wire_on g.wires pin))) (line-before kept (start + 1) start fs pin (omega arith))
+    ∙ ap (or_else (option_map (new_number kept) (wire_on g.wires pin))) (line-before kept (start + 1) start fs pin (omega arith))
     ∙ or-none (option_map (new_number kept) (wire_on g.wires pin))
     ∙ ap (λ (h : FittedChip). option_map (new_number kept) (wire_on h.wires pin)) same
 new-line kept start (suc i) j (g ∷ fs) f pin e at =

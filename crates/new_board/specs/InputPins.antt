@@ -2,6 +2,7 @@
 use Rattle.std.specs.Prelude.{ℕ, ◌+◌, Bool, true, false, not, ◌&&◌, ◌||◌, ◌==◌, List, [], ◌∷◌, ◌++◌, filter, if◌then◌else◌, Option, Some, None, is_some, is_none, option_and_then}
 use Rattle.std.specs.List.{list_any}
 use Rattle.std.specs.Str.{bytes_eq}
+use Rattle.mig_base.specs.First.{or_else}
 use Rattle.mig_base.specs.declared.kinds.Kind.{Kind}
 use Rattle.mig_base.specs.declared.nets.ChipLine.{ChipLine}
 use Rattle.mig_base.specs.declared.circuit.Read.{Read}
@@ -10,7 +11,7 @@ use Rattle.mig_base.specs.declared.circuit.Read.TheVariants.{OfNet, OfRegister}
 use Rattle.mig_base.specs.DeviceTables.{pair_pins, ordinary_pins, is_ordinary, clock_pin}
 use Rattle.mig_base.specs.Boards.{net_of}
 use Rattle.mig_base.specs.Structure.{same_read, variable_of}
-use Rattle.new_board.specs.NewChip.{OldBoard, NewChip, unit_on, register_on, clock_net, alias_net, can_stand, when, fixed_net, or_option, read_by, is_literal_of, is_read, first_of, needed_variables}
+use Rattle.new_board.specs.NewChip.{OldBoard, NewChip, unit_on, register_on, clock_net, alias_net, can_stand, when, fixed_net, read_by, is_literal_of, is_read, first_of, needed_variables}
 
 -- the net by which a variable can be wired to an input pin: of a register its alias net, if that is named
 abbrev pub wire_for : OldBoard → Read → Option ℕ
@@ -84,7 +85,7 @@ input_at (t ∷ ts) pin = if t.1 == pin then Some t.0 else input_at ts pin
 
 -- the net that a pin of the new chip stands on
 abbrev pub pin_net : OldBoard → NewChip → ℕ → Option ℕ
-pin_net b chip pin = or_option (fixed_net b chip pin) (option_and_then (wire_for b) (input_at (input_pins b chip) pin))
+pin_net b chip pin = or_else (fixed_net b chip pin) (option_and_then (wire_for b) (input_at (input_pins b chip) pin))
 
 -- what the columns of a pin of the new chip read
 abbrev pub pin_reads : OldBoard → NewChip → ℕ → Option Literal

@@ -16,11 +16,11 @@ use Rattle.mig_base.specs.declared.circuit.Read.TheVariants.{OfNet, OfRegister}
 use Rattle.mig_base.specs.declared.circuit.Gate.TheVariants.{Never, Product}
 use Rattle.mig_base.specs.declared.circuit.Gives.TheVariants.{Sum, Visible}
 use Rattle.new_board.specs.declared.types.PlacedUnit.{PlacedUnit}
-use Rattle.mig_base.specs.First.{made_from}
+use Rattle.mig_base.specs.First.{made_from, or_else}
 use Rattle.mig_base.specs.DeviceTables.{pair_pins, clock_pin, enable_pin, is_22, is_v8}
 use Rattle.mig_base.specs.Boards.{ChipUnit, at_of, net_of}
 use Rattle.mig_base.specs.Bools.{same_bool}
-use Rattle.mig_base.specs.Structure.{same_read, alias_of, variable_literal, variables_in}
+use Rattle.mig_base.specs.Structure.{same_read, alias_of, variable_literal, variables_in, has_no_driver}
 
 -- the board that is rebuilt: its wiring, its units, and its equations
 pub record OldBoard : Type 0 where
@@ -87,16 +87,6 @@ clock_net c chip = option_and_then (placed_clock c) (first_registered c chip)
 abbrev pub private_from : Net → ℕ
 private_from net = 2 + length net.nets
 
--- a wire that is there and has no driver
-abbrev pub has_no_driver : Option Wire → Bool
-has_no_driver None = false
-has_no_driver (Some w) = length w.drivers == 0
-
--- the first of two values that is there
-abbrev pub or_option : {T : Type 0} → Option T → Option T → Option T
-or_option None other = other
-or_option (Some x) other = Some x
-
 -- a value, where the test passes
 abbrev pub when : {T : Type 0} → Bool → Option T → Option T
 when test value = if test then value else None
@@ -147,8 +137,8 @@ unit_net b u = unit_net_of b (slice_get b.units u)
 -- the net that a pin stands on, but for input pins: that of its unit, of the clock, of the enable pin
 abbrev pub fixed_net : OldBoard → NewChip → ℕ → Option ℕ
 fixed_net b chip pin =
-    or_option (option_and_then (λ x. unit_net b x.unit) (unit_on chip.units pin))
-    (or_option (when (pin == clock_pin chip.kind) (clock_net b.circuit chip))
+    or_else (option_and_then (λ x. unit_net b x.unit) (unit_on chip.units pin))
+    (or_else (when (pin == clock_pin chip.kind) (clock_net b.circuit chip))
     (when (is_v8 chip.kind && (pin == enable_pin chip.kind)) (option_and_then (λ x. enable_net b x.enable) (first_registered b.circuit chip))))
 
 -- what the columns of a pin read: the register of its unit, or the level of the pin's net

@@ -2,6 +2,7 @@
 use Rattle.std.specs.Prelude.{ℕ, ◌+◌, Bool, false, ◌&&◌, ◌==◌, List, [], ◌∷◌, map, filter, Option, Some, None, if◌then◌else◌}
 use Rattle.std.specs.List.{list_any, filter_map, position}
 use Rattle.std.specs.Str.{bytes_eq}
+use Rattle.mig_base.specs.First.{or_else}
 use Rattle.mig_base.specs.declared.nets.PinName.{PinName}
 use Rattle.mig_base.specs.declared.plans.Plan.{Plan}
 use Rattle.mig_base.specs.declared.plans.PlanChip.{PlanChip}
@@ -10,7 +11,7 @@ use Rattle.mig_base.specs.declared.plans.PlanLine.TheVariants.{Place, Absorb}
 use Rattle.mig_base.specs.Boards.{units_from, places_from}
 use Rattle.board.specs.Joined.{Joined}
 use Rattle.board.specs.NodeNames.{unit_name}
-use Rattle.new_board.specs.NewChip.{OldBoard, or_option, when}
+use Rattle.new_board.specs.NewChip.{OldBoard, when}
 use Rattle.new_board.specs.OneForOne.{old_board}
 use Rattle.plans.specs.declared.placing.Placing.{Placing}
 
@@ -69,7 +70,7 @@ target_by name (Absorb unit) = None
 -- the pin that the first such line gives
 abbrev pub target_in : List PlanLine → PinName → Option PinName
 target_in [] name = None
-target_in (l ∷ ls) name = or_option (target_by name l) (target_in ls name)
+target_in (l ∷ ls) name = or_else (target_by name l) (target_in ls name)
 
 -- the first chip of this name
 abbrev pub chip_named : List PlanChip → List ℕ → Option PlanChip

@@ -11,13 +11,13 @@ use Rattle.mig_base.specs.declared.circuit.Wire.{Wire}
 use Rattle.mig_base.specs.declared.circuit.Circuit.{Circuit}
 use Rattle.mig_base.specs.Reads.{node_reads, wire_reads, driver_reads, reads_of_wire, reads_of_register}
 use Rattle.mig_base.specs.Values.{row_reads}
-use Rattle.mig_base.specs.Structure.{all_variables}
+use Rattle.mig_base.specs.Structure.{all_variables, has_no_driver}
 use Rattle.ranks.proofs.NoLoops.{all_mono}
 use Rattle.ranks.specs.declared.marks.Marks.{Marks}
 use Rattle.ranks.specs.Marked.{mark_in, number_of, number_in, ready, IsWaiting, with_mark, unmarked_of, waiting}
 use Rattle.ranks.specs.RankEquations.{greatest, above, if_driven, wire_rank, register_rank, or_zero, rank_rule}
 use Rattle.mig_base.specs.Reads.{IsNode}
-use Rattle.ranks.specs.Ranking.{AreReady, IsRankOf, IsRanking, IsPassed, IsStuck, undriven, wire_undriven}
+use Rattle.ranks.specs.Ranking.{AreReady, IsRankOf, IsRanking, IsPassed, IsStuck, undriven}
 use Rattle.ranks.proofs.Marking.{cases-read, mark-same, mark-other, lengths-marked, waiting-marked, blanks-most, unmarked-none, node-within}
 use Rattle.mig_base.proofs.Amongs.{among-all, node-among}
 use Rattle.mig_base.proofs.ListLaws.{get-past}
@@ -172,7 +172,7 @@ rule-driven c f (OfNet n) node h = at (slice_get c.nets n) refl h
     driven w [] e = cc
     driven w (u ∷ us) e = refl
 
-    at : (o : Option Wire) → slice_get c.nets n ≡ o → wire_undriven o ≡ false → or_zero (wire_rank c f) o ≡ greatest (map f (reads_of_wire c o)) + 1
+    at : (o : Option Wire) → slice_get c.nets n ≡ o → has_no_driver o ≡ false → or_zero (wire_rank c f) o ≡ greatest (map f (reads_of_wire c o)) + 1
     at None past e = absurd (omega (arith, get-past c.nets n past))
     at (Some w) is e = driven w w.drivers e
 rule-driven c f (OfRegister k) node h = at (slice_get c.registers k) refl
@@ -196,7 +196,7 @@ undriven-rank c m (OfNet n) h = at (slice_get c.nets n) refl h
       rule = sym (ap (or_zero (wire_rank c (number_in m))) is ∙ ap (λ (us : List ℕ). if_driven us (above (number_in m) (wire_reads c w))) none);
     }
 
-    at : (o : Option Wire) → slice_get c.nets n ≡ o → wire_undriven o ≡ true → IsRankOf c m (OfNet n) 0
+    at : (o : Option Wire) → slice_get c.nets n ≡ o → has_no_driver o ≡ true → IsRankOf c m (OfNet n) 0
     at None is e = cc
     at (Some w) is e = of w is (empty w.drivers e)
 undriven-rank c m (OfRegister k) h = cc

@@ -1,6 +1,7 @@
 -- Ranks of some nodes so far.
 use Rattle.std.specs.Prelude.{ℕ, ◌≡◌, ◌≤◌, ◌+◌, ◌==◌, Bool, false, List, length, Option, Some, None, slice_get}
 use Rattle.std.specs.List.{AllByRecursion}
+use Rattle.mig_base.specs.Structure.{has_no_driver}
 use Rattle.mig_base.specs.declared.circuit.Read.{Read}
 use Rattle.mig_base.specs.declared.circuit.Read.TheVariants.{OfNet, OfRegister}
 use Rattle.mig_base.specs.declared.circuit.Wire.{Wire}
@@ -11,13 +12,9 @@ use Rattle.ranks.specs.declared.marks.Marks.{Marks}
 use Rattle.ranks.specs.Marked.{mark_in, number_in, IsWaiting, waiting}
 use Rattle.ranks.specs.RankEquations.{rank_rule}
 
-abbrev pub wire_undriven : Option Wire → Bool
-wire_undriven None = false
-wire_undriven (Some w) = length w.drivers == 0
-
 -- a net without driver
 abbrev pub undriven : Circuit → Read → Bool
-undriven c (OfNet n) = wire_undriven (slice_get c.nets n)
+undriven c (OfNet n) = has_no_driver (slice_get c.nets n)
 undriven c (OfRegister k) = false
 
 -- none of these nodes waits for a rank

@@ -6,6 +6,7 @@ use Rattle.std.specs.Option.{option_map}
 use Rattle.std.proofs.lemmas.Bool.{cases_lt}
 use Rattle.std.proofs.lemmas.Option.{same_Some, slice_get-map, slice_get_within}
 use Rattle.std.proofs.Math.Bool.{or-true}
+use Rattle.mig_base.specs.First.{or_else}
 use Rattle.mig_base.specs.declared.kinds.Kind.{Kind}
 use Rattle.mig_base.specs.declared.cells.ChipCells.{ChipCells}
 use Rattle.mig_base.specs.declared.nets.Net.{Net}
@@ -26,7 +27,7 @@ use Rattle.mig_base.proofs.Amongs.{among-get, among-any}
 use Rattle.structure.specs.Sorted.{has_node}
 use Rattle.structure.proofs.Sorting.{product-none}
 use Rattle.new_board.proofs.EnablePins.{complement, product-single}
-use Rattle.new_board.specs.NewChip.{OldBoard, NewChip, unit_on, unit_net, unit_register, first_registered, placed_clock, clock_net, enable_net, or_option, when, private_from}
+use Rattle.new_board.specs.NewChip.{OldBoard, NewChip, unit_on, unit_net, unit_register, first_registered, placed_clock, clock_net, enable_net, when, private_from}
 use Rattle.new_board.specs.declared.types.PlacedUnit.{PlacedUnit}
 use Rattle.new_board.specs.InputPins.{wire_for, input_at, input_pins}
 use Rattle.new_board.specs.NewFiles.{number_in}
@@ -139,9 +140,9 @@ clock-pin net chips j line cells h =
       chip_is = same-found net chips j line cells h.line_is h.cells_is;
       ordinary = subst (λ (k : Kind). Among 1 (ordinary_pins k)) (sym table.gal) (inl refl);
       net =
-          ap (λ (o : Option PlacedUnit). or_option (or_option (option_and_then (λ (x : PlacedUnit). unit_net b x.unit) o) (or_option (clock_net b.circuit chip) (when (is_v8 chip.kind && eqb 1 (enable_pin chip.kind)) enable))) input)
+          ap (λ (o : Option PlacedUnit). or_else (or_else (option_and_then (λ (x : PlacedUnit). unit_net b x.unit) o) (or_else (clock_net b.circuit chip) (when (is_v8 chip.kind && eqb 1 (enable_pin chip.kind)) enable))) input)
           (no-cell net chips j 1 line cells h table.clock_no_cell)
-          ∙ ap (λ (o : Option ℕ). or_option (or_option o (when (is_v8 chip.kind && eqb 1 (enable_pin chip.kind)) enable)) input) (clock-net net chips j line cells h);
+          ∙ ap (λ (o : Option ℕ). or_else (or_else o (when (is_v8 chip.kind && eqb 1 (enable_pin chip.kind)) enable)) input) (clock-net net chips j line cells h);
     }
 
 -- the enable pin stands on its old net
@@ -159,12 +160,12 @@ enable-pin net chips j line cells h undriven =
       chip_is = same-found net chips j line cells h.line_is h.cells_is;
       ordinary = subst (λ (k : Kind). Among 11 (ordinary_pins k)) (sym table.gal) (inr (inr (inr (inr (inr (inr (inr (inr (inr (inl refl))))))))));
       net =
-          ap (λ (o : Option PlacedUnit). or_option (or_option (option_and_then (λ (x : PlacedUnit). unit_net b x.unit) o) (when (is_v8 chip.kind && eqb 11 (enable_pin chip.kind)) (enable (first_registered b.circuit chip)))) input)
+          ap (λ (o : Option PlacedUnit). or_else (or_else (option_and_then (λ (x : PlacedUnit). unit_net b x.unit) o) (when (is_v8 chip.kind && eqb 11 (enable_pin chip.kind)) (enable (first_registered b.circuit chip)))) input)
           (no-cell net chips j 11 line cells h table.enable_no_cell)
-          ∙ ap (λ (k : Kind). or_option (when (is_v8 k && eqb 11 (enable_pin k)) (enable (first_registered b.circuit chip))) input) table.gal
-          ∙ ap (λ (o : Option PlacedUnit). or_option (enable o) input) h.first_is
-          ∙ ap (λ (x : PlacedUnit). or_option (enable_net b x.enable) input) (first-reg net chips j line cells h)
-          ∙ ap (λ (o : Option ℕ). or_option o input) (low-enable b (net_of net (j, 11)) undriven);
+          ∙ ap (λ (k : Kind). or_else (when (is_v8 k && eqb 11 (enable_pin k)) (enable (first_registered b.circuit chip))) input) table.gal
+          ∙ ap (λ (o : Option PlacedUnit). or_else (enable o) input) h.first_is
+          ∙ ap (λ (x : PlacedUnit). or_else (enable_net b x.enable) input) (first-reg net chips j line cells h)
+          ∙ ap (λ (o : Option ℕ). or_else o input) (low-enable b (net_of net (j, 11)) undriven);
     }
 
 -- both nets are GND, both are VCC, or neither is a constant

@@ -6,15 +6,15 @@ use Rattle.std.proofs.lemmas.Option.{same_Some}
 use Rattle.mig_base.specs.declared.circuit.Read.{Read}
 use Rattle.mig_base.specs.declared.circuit.Read.TheVariants.{OfNet, OfRegister}
 use Rattle.mig_base.specs.declared.circuit.Literal.{Literal}
-use Rattle.mig_base.specs.First.{made_from}
+use Rattle.mig_base.specs.First.{made_from, or_else}
 use Rattle.mig_base.specs.Among.{Among}
 use Rattle.mig_base.specs.declared.nets.Net.{Net}
 use Rattle.mig_base.specs.DeviceTables.{is_22}
 use Rattle.mig_base.specs.Boards.{ChipUnit, circuit_on}
-use Rattle.mig_base.specs.Structure.{same_read, alias_of, all_variables, variable_literal, variable_product}
+use Rattle.mig_base.specs.Structure.{same_read, alias_of, all_variables, variable_literal, variable_product, has_no_driver}
 use Rattle.mig_base.proofs.Amongs.{among-any, among-left, among-flat_map, map-among, product-among}
 use Rattle.mig_base.proofs.ReadLaws.{same-read}
-use Rattle.new_board.specs.NewChip.{OldBoard, NewChip, unit_on, register_driven, private_from, fixed_net, or_option, alias_net, is_register_of, is_read, products_by, unit_products, control_products, chip_products, needed_variables, has_no_driver}
+use Rattle.new_board.specs.NewChip.{OldBoard, NewChip, unit_on, register_driven, private_from, fixed_net, alias_net, is_register_of, is_read, products_by, unit_products, control_products, chip_products, needed_variables}
 use Rattle.new_board.specs.OneForOne.{old_rows, terms_over}
 use Rattle.new_board.specs.InputPins.{wire_for, input_at, input_pins, pin_net, reading_pin}
 use Rattle.new_board.proofs.Items.{among-filter, among-unfilter}
@@ -78,7 +78,7 @@ wired-undriven b (OfRegister k) n e high = let below : n < private_from b.net = 
 pub input-undriven : (b : OldBoard) (chip : NewChip) (pin n : ℕ) → fixed_net b chip pin ≡ None → pin_net b chip pin ≡ Some n → private_from b.net ≤ n →
     has_no_driver (slice_get b.circuit.nets n) ≡ true
 input-undriven b chip pin n none e high =
-    at (input_at (input_pins b chip) pin) (ap (λ (o : Option ℕ). or_option o (option_and_then (wire_for b) (input_at (input_pins b chip) pin))) (sym none) ∙ e)
+    at (input_at (input_pins b chip) pin) (ap (λ (o : Option ℕ). or_else o (option_and_then (wire_for b) (input_at (input_pins b chip) pin))) (sym none) ∙ e)
   where
     at : (o : Option Read) → option_and_then (wire_for b) o ≡ Some n → has_no_driver (slice_get b.circuit.nets n) ≡ true
     at None e = cc

@@ -3,6 +3,8 @@ use Rattle.std.proofs.Common.{ℕ, ◌≡◌, ◌≤◌, Bool, true, false, cond
 use Rattle.std.specs.Prelude.{option_and_then}
 use Rattle.std.specs.List.{slice_get}
 use Rattle.std.proofs.lemmas.Option.{same_Some}
+use Rattle.mig_base.specs.First.{or_else}
+use Rattle.mig_base.specs.Structure.{has_no_driver}
 use Rattle.mig_base.specs.declared.kinds.Kind.{Kind}
 use Rattle.mig_base.specs.declared.kinds.Kind.TheVariants.{Gal16V8}
 use Rattle.mig_base.specs.declared.kinds.Mode.TheVariants.{Fixed}
@@ -17,7 +19,7 @@ use Rattle.mig_base.specs.Among.{Among}
 use Rattle.mig_base.specs.DeviceTables.{pair_pins, ordinary_pins, enable_pin, is_v8}
 use Rattle.mig_base.specs.Boards.{At, ChipUnit, at_of, net_of, is_registered, register_of, units_from, circuit_on}
 use Rattle.mig_base.proofs.Amongs.{among-get}
-use Rattle.new_board.specs.NewChip.{OldBoard, NewChip, unit_on, unit_net, placed_register, register_on, first_registered, placed_clock, clock_net, enable_net, fixed_net, or_option, when, private_from, has_no_driver}
+use Rattle.new_board.specs.NewChip.{OldBoard, NewChip, unit_on, unit_net, placed_register, register_on, first_registered, placed_clock, clock_net, enable_net, fixed_net, when, private_from}
 use Rattle.new_board.specs.InputPins.{pin_net}
 use Rattle.new_board.specs.declared.types.PlacedUnit.{PlacedUnit}
 use Rattle.new_board.specs.OneForOne.{old_reg, same_chip, same_chips}
@@ -57,19 +59,19 @@ first-chip net chips j chip x board s e = record {
 fixed-apart : (b : OldBoard) (chip : NewChip) (pin : ℕ) → unit_on chip.units pin ≡ None → eqb pin 1 ≡ false → (is_v8 chip.kind && eqb pin (enable_pin chip.kind)) ≡ false → fixed_net b chip pin ≡ None
 fixed-apart b chip pin none clock enable =
     let enabled = option_and_then (λ (x : PlacedUnit). enable_net b x.enable) (first_registered b.circuit chip) in
-    ap (λ (o : Option PlacedUnit). or_option (option_and_then (λ (x : PlacedUnit). unit_net b x.unit) o) (or_option (when (eqb pin 1) (clock_net b.circuit chip)) (when (is_v8 chip.kind && eqb pin (enable_pin chip.kind)) enabled))) none
-    ∙ ap (λ (q : Bool). or_option (when q (clock_net b.circuit chip)) (when (is_v8 chip.kind && eqb pin (enable_pin chip.kind)) enabled)) clock
+    ap (λ (o : Option PlacedUnit). or_else (option_and_then (λ (x : PlacedUnit). unit_net b x.unit) o) (or_else (when (eqb pin 1) (clock_net b.circuit chip)) (when (is_v8 chip.kind && eqb pin (enable_pin chip.kind)) enabled))) none
+    ∙ ap (λ (q : Bool). or_else (when q (clock_net b.circuit chip)) (when (is_v8 chip.kind && eqb pin (enable_pin chip.kind)) enabled)) clock
     ∙ ap (λ (q : Bool). when q enabled) enable
 
 fixed-unregistered : (b : OldBoard) (chip : NewChip) (pin : ℕ) → unit_on chip.units pin ≡ None → first_registered b.circuit chip ≡ None → fixed_net b chip pin ≡ None
 fixed-unregistered b chip pin none first =
     let enabled = option_and_then (λ (x : PlacedUnit). enable_net b x.enable) in
     let clocked = option_and_then (placed_clock b.circuit) in
-    ap (λ (o : Option PlacedUnit). or_option (option_and_then (λ (x : PlacedUnit). unit_net b x.unit) o) (or_option (when (eqb pin 1) (clocked (first_registered b.circuit chip))) (when (is_v8 chip.kind && eqb pin (enable_pin chip.kind)) (enabled (first_registered b.circuit chip))))) none
-    ∙ ap (λ (o : Option PlacedUnit). or_option (when (eqb pin 1) (clocked o)) (when (is_v8 chip.kind && eqb pin (enable_pin chip.kind)) (enabled o))) first
+    ap (λ (o : Option PlacedUnit). or_else (option_and_then (λ (x : PlacedUnit). unit_net b x.unit) o) (or_else (when (eqb pin 1) (clocked (first_registered b.circuit chip))) (when (is_v8 chip.kind && eqb pin (enable_pin chip.kind)) (enabled (first_registered b.circuit chip))))) none
+    ∙ ap (λ (o : Option PlacedUnit). or_else (when (eqb pin 1) (clocked o)) (when (is_v8 chip.kind && eqb pin (enable_pin chip.kind)) (enabled o))) first
     ∙ at (eqb pin 1) (is_v8 chip.kind && eqb pin (enable_pin chip.kind))
   where
-    at : (p q : Bool) → or_option {T = ℕ} (when p None) (when q None) ≡ None
+    at : (p q : Bool) → or_else {T = ℕ} (when p None) (when q None) ≡ None
     at true true = refl
     at true false = refl
     at false true = refl

@@ -1,6 +1,7 @@
 -- Boards of PAL16 chips whose combinational units read no combinational net have ranks, and so have the boards that are built for them.
 use Rattle.std.proofs.Common.{ℕ, suc, ◌≡◌, ◌<◌, Bool, true, false, cond, List, [], ◌∷◌, length, Option, Some, None, refl, sym, ap, ◌∙◌, subst, inl, inr, ◌⊎◌, eqb, eqb-true, ne_eqb, arith}
 use Rattle.std.specs.List.{list_any, slice_get, AllByRecursion}
+use Rattle.mig_base.specs.Structure.{has_no_driver}
 use Rattle.mig_base.specs.declared.cells.ChipCells.{ChipCells}
 use Rattle.mig_base.specs.declared.nets.Net.{Net}
 use Rattle.mig_base.specs.declared.circuit.Read.{Read}
@@ -18,8 +19,9 @@ use Rattle.mig_base.specs.Values.{row_reads, sum_reads}
 use Rattle.mig_base.specs.Reads.{gives_reads, driver_reads, reads_of_wire, reads_of_register, node_reads}
 use Rattle.mig_base.specs.declared.circuit.Gives.{Gives}
 use Rattle.mig_base.specs.Ranked.{Ranked}
-use Rattle.taken_boards.specs.TakenBoards.{is_undriven, is_undriven_wire}
-use Rattle.taken_boards.specs.TakenBoards.{gives_sum, is_combinational, is_combinational_wire, is_combinational_net}
+use Rattle.structure.specs.Absorbable.{is_sum}
+use Rattle.taken_boards.specs.TakenBoards.{is_undriven}
+use Rattle.taken_boards.specs.TakenBoards.{is_combinational, is_combinational_wire, is_combinational_net}
 use Rattle.mig_base.specs.Boards.{ChipUnit, at_of, is_registered, registers_of, driver_of, register_of, units_from, circuit_on}
 use Rattle.mig_base.proofs.Amongs.{all-among, among-any, among-split, among-get, among-map}
 use Rattle.new_board.proofs.Items.{among-unflat_map, among-unfilter}
@@ -32,8 +34,8 @@ use Rattle.rebuilt_boards.proofs.PalBoards.{IsPalBoard}
 
 -- a register whose enable reads no net that has a driver, or logic whose rows read no net that has a combinational one
 pub record DriverRanks (c : Circuit) (d : Driver) : Type 0 where
-  pub registered : gives_sum d.gives ≡ false → (v : Read) → Among v (row_reads d.enable) → is_undriven c v ≡ true
-  pub enable : gives_sum d.gives ≡ true → (v : Read) → Among v (row_reads d.enable) → is_combinational_net c v ≡ false
+  pub registered : is_sum d.gives ≡ false → (v : Read) → Among v (row_reads d.enable) → is_undriven c v ≡ true
+  pub enable : is_sum d.gives ≡ true → (v : Read) → Among v (row_reads d.enable) → is_combinational_net c v ≡ false
   pub terms : (ts : List (List Literal)) → d.gives ≡ Sum ts → (v : Read) → Among v (sum_reads ts) → is_combinational_net c v ≡ false
 
 -- such boards without resets
@@ -54,7 +56,7 @@ undriven-plain c (OfNet n) e = at (slice_get c.nets n) e
     empty [] e = refl
     empty (d ∷ ds) e = let wrong : suc (length ds) ≡ 0 = eqb-true (suc (length ds)) 0 e in absurd (omega arith)
 
-    at : (o : Option Wire) → is_undriven_wire o ≡ true → is_combinational_wire c o ≡ false
+    at : (o : Option Wire) → has_no_driver o ≡ true → is_combinational_wire c o ≡ false
     at None e = cc
     at (Some w) e = empty w.drivers e
 
@@ -73,8 +75,8 @@ registered-rank c (OfNet n) e = subst (λ (q : Bool). cond q 2 (cond (is_undrive
 
 driven-rank : (c : Circuit) (n i : ℕ) (w : Wire) → slice_get c.nets n ≡ Some w → Among i w.drivers → 0 < pal_rank c (OfNet n)
 driven-rank c n i w e a =
-    let wire : cond (is_combinational_wire c (Some w)) 2 (cond (is_undriven_wire (Some w)) 0 1) ≡ pal_rank c (OfNet n) =
-    ap (λ (o : Option Wire). cond (is_combinational_wire c o) 2 (cond (is_undriven_wire o) 0 1)) (sym e) in
+    let wire : cond (is_combinational_wire c (Some w)) 2 (cond (has_no_driver (Some w)) 0 1) ≡ pal_rank c (OfNet n) =
+    ap (λ (o : Option Wire). cond (is_combinational_wire c o) 2 (cond (has_no_driver o) 0 1)) (sym e) in
     subst (λ (k : ℕ). 0 < k) wire (at w.drivers a (list_any (λ u. is_combinational (slice_get c.units u)) w.drivers))
   where
     at : (ds : List ℕ) → Among i ds → (q : Bool) → 0 < cond q 2 (cond (eqb (length ds) 0) 0 1)
@@ -82,7 +84,7 @@ driven-rank c n i w e a =
     at (d ∷ ds) a true = omega arith
     at (d ∷ ds) a false = subst (λ (t : Bool). 0 < cond t 0 1) (sym (ne_eqb (suc (length ds)) 0 (λ e. omega arith))) (omega arith)
 
-combinational-rank : (c : Circuit) (n i : ℕ) (w : Wire) (d : Driver) → slice_get c.nets n ≡ Some w → Among i w.drivers → slice_get c.units i ≡ Some d → gives_sum d.gives ≡ true → pal_rank c (OfNet n) ≡ 2
+combinational-rank : (c : Circuit) (n i : ℕ) (w : Wire) (d : Driver) → slice_get c.nets n ≡ Some w → Among i w.drivers → slice_get c.units i ≡ Some d → is_sum d.gives ≡ true → pal_rank c (OfNet n) ≡ 2
 combinational-rank c n i w d e a u s =
     ap (λ (o : Option Wire). cond (is_combinational_wire c o) 2 (cond (is_undriven c (OfNet n)) 0 1)) e
     ∙ ap (λ (q : Bool). cond q 2 (cond (is_undriven c (OfNet n)) 0 1)) (among-any (λ u. is_combinational (slice_get c.units u)) i w.drivers a (ap is_combinational u ∙ s))
@@ -93,7 +95,7 @@ pal-ranked c h = record { falls = falls; below = below }
     gives : (n i : ℕ) (w : Wire) (d : Driver) (v : Read) → slice_get c.nets n ≡ Some w → Among i w.drivers → slice_get c.units i ≡ Some d → (g : Gives) → d.gives ≡ g → Among v (gives_reads g) → pal_rank c v < pal_rank c (OfNet n)
     gives n i w d v e a u (Sum ts) is r =
         let low : pal_rank c v < 2 = registered-rank c v ((h.drivers i d u).terms ts is v r) in
-        let high : pal_rank c (OfNet n) ≡ 2 = combinational-rank c n i w d e a u (ap gives_sum is) in
+        let high : pal_rank c (OfNet n) ≡ 2 = combinational-rank c n i w d e a u (ap is_sum is) in
         omega arith
     gives n i w d v e a u (Visible k) is (inl same) =
         let low : pal_rank c v ≡ 0 = ap (pal_rank c) same in
@@ -106,9 +108,9 @@ pal-ranked c h = record { falls = falls; below = below }
     driver n i w v e a (Some d) u r = at (among-split v (row_reads d.enable) (gives_reads d.gives) r)
       where
         at : Among v (row_reads d.enable) ⊎ Among v (gives_reads d.gives) → pal_rank c v < pal_rank c (OfNet n)
-        at (inl k) = by (gives_sum d.gives) refl
+        at (inl k) = by (is_sum d.gives) refl
           where
-            by : (q : Bool) → gives_sum d.gives ≡ q → pal_rank c v < pal_rank c (OfNet n)
+            by : (q : Bool) → is_sum d.gives ≡ q → pal_rank c v < pal_rank c (OfNet n)
             by false s =
                 let low : pal_rank c v ≡ 0 = undriven-rank c v ((h.drivers i d u).registered s v k) in
                 let high : 0 < pal_rank c (OfNet n) = driven-rank c n i w e a in

@@ -24,17 +24,17 @@ use Rattle.mig_base.specs.declared.circuit.Gives.TheVariants.{Sum, Visible}
 use Rattle.mig_base.specs.declared.circuit.Driver.{Driver}
 use Rattle.mig_base.specs.declared.circuit.Wire.{Wire}
 use Rattle.mig_base.specs.declared.circuit.Circuit.{Circuit}
-use Rattle.mig_base.specs.First.{made_from}
+use Rattle.mig_base.specs.First.{made_from, or_else}
 use Rattle.mig_base.specs.Among.{Among}
 use Rattle.mig_base.specs.DeviceTables.{pair_pins, ordinary_pins, is_ordinary, cell_pins, pal_registers, enable_pin, is_v8, is_22}
 use Rattle.mig_base.specs.Cells.{is_among, pal_cell}
 use Rattle.mig_base.specs.WellFormed.{is_reg}
 use Rattle.mig_base.specs.Boards.{At, ChipUnit, at_of, pins_from, net_of, is_registered, register_of, read_of, literals_of, driver_of, drives, can_drive, places_from, kinds_of, is_unit, makes_unit, units_from, circuit_on}
-use Rattle.mig_base.specs.Structure.{same_read, alias_of, or_alias, all_variables, variable_by, variable_literal, variable_of}
+use Rattle.mig_base.specs.Structure.{same_read, alias_of, or_alias, all_variables, variable_by, variable_literal, variable_of, has_no_driver}
 use Rattle.mig_base.proofs.Amongs.{among-get, map-among, any-among, among-any}
 use Rattle.mig_base.proofs.ReadLaws.{same-read}
 use Rattle.mig_base.proofs.Aliases.{alias-is, IsAlias}
-use Rattle.new_board.specs.NewChip.{OldBoard, NewChip, unit_on, unit_net, unit_net_of, placed_register, register_on, first_registered, placed_clock, clock_net, private_from, is_register_of, read_by, is_literal_of, is_read_at, is_read, fixed_net, or_option, has_no_driver}
+use Rattle.new_board.specs.NewChip.{OldBoard, NewChip, unit_on, unit_net, unit_net_of, placed_register, register_on, first_registered, placed_clock, clock_net, private_from, is_register_of, read_by, is_literal_of, is_read_at, is_read, fixed_net}
 use Rattle.new_board.specs.InputPins.{stood_on}
 use Rattle.new_board.specs.declared.types.PlacedUnit.{PlacedUnit}
 use Rattle.new_board.specs.OneForOne.{old_rows, same_chip}
@@ -272,8 +272,8 @@ no-register net chips j pin line cells c plain = at (unit_on (same_chip (board_o
 fixed-unit : (b : OldBoard) (chip : NewChip) (pin : ℕ) (x : PlacedUnit) (n : ℕ) → unit_on chip.units pin ≡ Some x → unit_net b x.unit ≡ Some n → fixed_net b chip pin ≡ Some n
 fixed-unit b chip pin x n on its_net = first _ _ n (ap (option_and_then (λ (y : PlacedUnit). unit_net b y.unit)) on ∙ its_net)
   where
-    first : (o other : Option ℕ) (n : ℕ) → o ≡ Some n → or_option o other ≡ Some n
-    first o other n e = ap (λ (q : Option ℕ). or_option q other) e
+    first : (o other : Option ℕ) (n : ℕ) → o ≡ Some n → or_else o other ≡ Some n
+    first o other n e = ap (λ (q : Option ℕ). or_else q other) e
 
 -- a literal of the net of a pin
 pin-literal : (net : Net) (chips : List ChipCells) (j pin : ℕ) (line : ChipLine) (cells : ChipCells) (x : Literal) → IsChip net chips j line cells → Among pin (pair_pins line.kind Fixed) →

@@ -26,10 +26,11 @@ use Rattle.level_laws.proofs.FollowsSame.{follows-same}
 use Rattle.rebuilt_boards.specs.RebuiltBoards.{HasRanks, IsRebuilt, built_net, built_cells}
 use Rattle.new_board.specs.NewFiles.{fitted}
 use Rattle.std.proofs.lemmas.Bool.{cases_lt}
-use Rattle.taken_boards.specs.TakenBoards.{is_undriven, is_undriven_wire}
-use Rattle.taken_boards.specs.TakenBoards.{gives_sum, is_combinational, is_combinational_wire, is_combinational_net}
+use Rattle.structure.specs.Absorbable.{is_sum}
+use Rattle.taken_boards.specs.TakenBoards.{is_undriven}
+use Rattle.taken_boards.specs.TakenBoards.{is_combinational, is_combinational_wire, is_combinational_net}
 use Rattle.mig_base.specs.Boards.{At, ChipUnit, net_of, is_registered, registers_of, low_pin, driver_of, register_of, units_from, circuit_on, circuit}
-use Rattle.mig_base.specs.Structure.{or_alias, alias_of, variable_by, variable_literal, variable_product}
+use Rattle.mig_base.specs.Structure.{or_alias, alias_of, variable_by, variable_literal, variable_product, has_no_driver}
 use Rattle.mig_base.proofs.Amongs.{among-all, among-get, map-among, among-map, among-flat_map, product-among}
 use Rattle.mig_base.proofs.Aliases.{alias-is}
 use Rattle.new_board.specs.NewChip.{OldBoard, NewChip, register_on, read_by, net_literal, private_from}
@@ -60,7 +61,7 @@ alias-registered c n a e =
     let i = alias-is c n a e in
     ap (is_combinational_wire c) i.found
     ∙ ap (list_any (λ u. is_combinational (slice_get c.units u))) i.only
-    ∙ ap (λ (q : Bool). q || false) (ap is_combinational i.unit_is ∙ ap gives_sum i.alias.gives)
+    ∙ ap (λ (q : Bool). q || false) (ap is_combinational i.unit_is ∙ ap is_sum i.alias.gives)
 
 variable-registered : (c : Circuit) (n : ℕ) (x : Literal) → is_combinational_net c x.source ≡ false → (net_literal c n).source ≡ (variable_literal c x).source → is_combinational_net c (OfNet n) ≡ false
 variable-registered c n x plain e = at (alias_of c n) refl e
@@ -129,7 +130,7 @@ combinational-same net chips i board =
     ∙ at (slice_get (units_from 0 chips) i) (λ u e. board-registered net chips u board (among-get (units_from 0 chips) i u e))
     ∙ ap is_combinational (sym (slice_get-map (driver_of net (units_from 0 chips)) (units_from 0 chips) i))
   where
-    by : (p q : Bool) (k m : ℕ) (ts ss : List (List Literal)) → p ≡ q → gives_sum (cond p (Visible k) (Sum ts)) ≡ gives_sum (cond q (Visible m) (Sum ss))
+    by : (p q : Bool) (k m : ℕ) (ts ss : List (List Literal)) → p ≡ q → is_sum (cond p (Visible k) (Sum ts)) ≡ is_sum (cond q (Visible m) (Sum ss))
     by true true k m ts ss e = refl
     by false false k m ts ss e = refl
     by true false k m ts ss e = cc
@@ -193,7 +194,7 @@ reg-ranks net chips i u board e r =
     let m = net_of (built_wiring net chips) (u.chip, 11) in
     let free = enable-undriven net chips u board (among-get (units_from 0 chips) i u e) r in
     let here : is_undriven (built net chips) (OfNet m) ≡ true =
-    ap is_undriven_wire (built-wire net chips (u.chip, 11) n board s.enable) ∙ ap is_undriven_wire free.found ∙ ap (λ (ds : List ℕ). eqb (length ds) 0) free.none in
+    ap has_no_driver (built-wire net chips (u.chip, 11) n board s.enable) ∙ ap has_no_driver free.found ∙ ap (λ (ds : List ℕ). eqb (length ds) 0) free.none in
     subst (DriverRanks (built net chips)) (sym (new-reg_driver net chips (board_old net chips) i u s))
     (record {
       registered = λ q v k. among-all (λ v. is_undriven (built net chips) v ≡ true) v (row_reads (low_pin m)) (low-all (λ v. is_undriven (built net chips) v ≡ true) n m s.constants here) k;

@@ -4,6 +4,7 @@ use Rattle.std.specs.List.{filter, list_any, list_all, slice_get}
 use Rattle.std.specs.List.{AllByRecursion}
 use Rattle.std.proofs.lemmas.Option.{same_Some}
 use Rattle.std.proofs.lemmas.List.{map-append}
+use Rattle.mig_base.specs.Structure.{has_no_driver}
 use Rattle.mig_base.specs.declared.kinds.Kind.{Kind}
 use Rattle.mig_base.specs.declared.kinds.Kind.TheVariants.{Gal16V8}
 use Rattle.mig_base.specs.declared.cells.Cell.{Cell}
@@ -17,7 +18,7 @@ use Rattle.mig_base.specs.WellFormed.{is_never}
 use Rattle.mig_base.specs.Boards.{At, ChipUnit, can_drive, driver_of, makes_unit, is_unit, in_cell, in_row, units_from, circuit_on}
 use Rattle.mig_base.proofs.Amongs.{among-get, map-among, among-map, among-left, among-right, any-among}
 use Rattle.new_board.specs.declared.types.PlacedUnit.{PlacedUnit}
-use Rattle.new_board.specs.NewChip.{OldBoard, NewChip, private_from, unit_on, has_no_driver}
+use Rattle.new_board.specs.NewChip.{OldBoard, NewChip, private_from, unit_on}
 use Rattle.new_board.specs.InputPins.{pin_net}
 use Rattle.new_board.specs.NewFiles.{cell_of, new_cell, new_cells, fitted}
 use Rattle.new_board.specs.OneForOne.{old_rows, same_chip, same_chips_from, same_chips}

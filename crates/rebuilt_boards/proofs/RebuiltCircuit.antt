@@ -5,6 +5,8 @@ use Rattle.std.specs.List.{slice_get}
 use Rattle.std.specs.Option.{option_map}
 use Rattle.std.proofs.lemmas.Bool.{cases_lt, cases_eq}
 use Rattle.std.proofs.lemmas.Option.{same_Some, slice_get-map, none-some}
+use Rattle.mig_base.specs.First.{or_else}
+use Rattle.mig_base.specs.Structure.{has_no_driver}
 use Rattle.mig_base.specs.declared.kinds.Kind.TheVariants.{Gal16V8}
 use Rattle.mig_base.specs.declared.kinds.Mode.TheVariants.{Complex}
 use Rattle.mig_base.specs.declared.nets.Net.{Net}
@@ -18,7 +20,7 @@ use Rattle.mig_base.specs.Among.{Among}
 use Rattle.mig_base.specs.DeviceTables.{ordinary_pins}
 use Rattle.mig_base.specs.Boards.{At, place_of, line_at, pins_from, privates, net_of, ChipUnit, at_of, places_from, kinds_of, can_drive, driver_of, drives, circuit_on}
 use Rattle.mig_base.proofs.Amongs.{among-get, among-map}
-use Rattle.new_board.specs.NewChip.{OldBoard, NewChip, private_from, unit_on, unit_net, unit_net_of, or_option, has_no_driver}
+use Rattle.new_board.specs.NewChip.{OldBoard, NewChip, private_from, unit_on, unit_net, unit_net_of}
 use Rattle.new_board.specs.InputPins.{pin_net}
 use Rattle.new_board.specs.NewFiles.{new_cell, new_cells, fitted, wire_at, new_wires, new_number, new_chip_line}
 use Rattle.new_board.specs.declared.types.PlacedUnit.{PlacedUnit}
@@ -78,8 +80,8 @@ pub record IsPin (b : OldBoard) (news : List NewChip) (q : At) (n : ℕ) : Type 
   pub ordinary : Among q.1 (ordinary_pins chip.kind)
   pub net : pin_net b chip q.1 ≡ Some n
 
-or-first : (o other : Option ℕ) (n : ℕ) → o ≡ Some n → or_option o other ≡ Some n
-or-first o other n e = ap (λ (q : Option ℕ). or_option q other) e
+or-first : (o other : Option ℕ) (n : ℕ) → o ≡ Some n → or_else o other ≡ Some n
+or-first o other n e = ap (λ (q : Option ℕ). or_else q other) e
 
 pub unit-pin : (b : OldBoard) (news : List NewChip) (i : ℕ) (u : ChipUnit) → UnitsFit b news → slice_get b.units i ≡ Some u → IsPin b news (at_of u) (net_of b.net (at_of u))
 unit-pin b news i u fit e =

@@ -14,9 +14,9 @@ use Rattle.mig_base.specs.declared.circuit.Wire.{Wire}
 use Rattle.mig_base.specs.declared.circuit.Circuit.{Circuit}
 use Rattle.mig_base.specs.Among.{Among}
 use Rattle.mig_base.specs.DeviceTables.{is_pal16, pair_pins, ordinary_pins}
-use Rattle.mig_base.specs.Structure.{is_shared, alias_of, alias_only, alias_wire, or_alias, variable_by, variable_literal}
-use Rattle.new_board.specs.NewChip.{OldBoard, private_from, has_no_driver}
-use Rattle.taken_boards.specs.TakenBoards.{is_undriven, is_undriven_wire}
+use Rattle.mig_base.specs.Structure.{is_shared, alias_of, alias_only, alias_wire, or_alias, variable_by, variable_literal, has_no_driver}
+use Rattle.new_board.specs.NewChip.{OldBoard, private_from}
+use Rattle.taken_boards.specs.TakenBoards.{is_undriven}
 use Rattle.new_board.specs.InputPins.{chip_from}
 use Rattle.new_board.specs.OneForOne.{gal_mode, same_chip}
 use Rattle.new_board.proofs.Reading.{IsWired}
@@ -75,6 +75,6 @@ wire-undriven c n e = at (slice_get c.nets n) refl e
     empty [] e = refl
     empty (d ∷ ds) e = absurd (omega arith)
 
-    at : (o : Option Wire) → slice_get c.nets n ≡ o → is_undriven_wire o ≡ true → IsUndriven c n
+    at : (o : Option Wire) → slice_get c.nets n ≡ o → has_no_driver o ≡ true → IsUndriven c n
     at None is e = cc
     at (Some w) is e = record { wire = w; found = is; none = empty w.drivers (eqb-true (length w.drivers) 0 e) }

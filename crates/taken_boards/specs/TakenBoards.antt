@@ -2,6 +2,7 @@
 use Rattle.std.specs.Prelude.{◌≡◌, ◌+◌, Bool, true, false, not, ◌&&◌, ◌==◌, nat_le, nat_lt, List, [], ◌∷◌, length, map, if◌then◌else◌, Option, Some, None, Ok, slice_get}
 use Rattle.std.specs.List.{list_any, list_all}
 use Rattle.std.specs.Str.{bytes_eq}
+use Rattle.mig_base.specs.Structure.{has_no_driver}
 use Rattle.mig_base.specs.declared.cells.ChipCells.{ChipCells}
 use Rattle.mig_base.specs.declared.nets.Net.{Net}
 use Rattle.mig_base.specs.declared.nets.ChipLine.{ChipLine}
@@ -24,6 +25,7 @@ use Rattle.mig_base.specs.Boards.{circuit}
 use Rattle.mig_base.specs.BoardText.{is_both}
 use Rattle.mig_base.specs.Given.{AreMade}
 use Rattle.mig_base.specs.WrittenBoard.{are_distinct}
+use Rattle.structure.specs.Absorbable.{is_sum}
 
 abbrev pub is_free : Pull → Bool
 is_free Free = true
@@ -37,13 +39,9 @@ is_taken_wiring net = list_all (λ c. is_pal16 c.kind) net.chips && list_all (λ
 abbrev pub has_few_drivers : Wire → Bool
 has_few_drivers w = nat_le (length w.drivers) (if is_fixed w.kind then 0 else 1)
 
-abbrev pub is_undriven_wire : Option Wire → Bool
-is_undriven_wire None = false
-is_undriven_wire (Some w) = length w.drivers == 0
-
 -- no net that has a driver: a net without one, or a register
 abbrev pub is_undriven : Circuit → Read → Bool
-is_undriven c (OfNet n) = is_undriven_wire (slice_get c.nets n)
+is_undriven c (OfNet n) = has_no_driver (slice_get c.nets n)
 is_undriven c (OfRegister k) = true
 
 abbrev pub is_input_kind : NetKind → Bool
@@ -62,13 +60,9 @@ have_one_clock c (r ∷ rs) = is_input_wire (slice_get c.nets r.clock) && list_a
 abbrev pub enable_undriven : Circuit → Driver → Bool
 enable_undriven c d = list_all (is_undriven c) (row_reads d.enable)
 
-abbrev pub gives_sum : Gives → Bool
-gives_sum (Sum terms) = true
-gives_sum (Visible k) = false
-
 abbrev pub is_combinational : Option Driver → Bool
 is_combinational None = false
-is_combinational (Some d) = gives_sum d.gives
+is_combinational (Some d) = is_sum d.gives
 
 abbrev pub is_combinational_wire : Circuit → Option Wire → Bool
 is_combinational_wire c None = false
