@@ -1,7 +1,8 @@
 -- What is left of the primes covers the function, and none of it can be left out.
 use Rattle.std.proofs.Common.{◌≡◌, ℕ, zero, suc, ◌<◌, Bool, true, false, ◌||◌, refl, sym, ◌∙◌, ap, subst, arith, inl, inr, List, [], ◌∷◌, ◌++◌, length, append_assoc, true≢false}
 use Rattle.std.specs.List.{remove, AllByRecursion}
-use Rattle.primes.specs.Prime.{Point, Function, Product, lies_in, IsImplicant, in_some, Covers}
+use Rattle.bdd.specs.Tree.{Point}
+use Rattle.primes.specs.Prime.{Function, Product, lies_in, IsImplicant, in_some, Covers}
 use Rattle.cover.specs.Cover.{IsLeft}
 
 pub in_some_append : (xs ys : List Product) (p : Point) → in_some (xs ++ ys) p ≡ (in_some xs p || in_some ys p)

@@ -2,10 +2,10 @@
 use Rattle.std.proofs.Common.{◌≡◌, ℕ, ◌<◌, List, [], length, get_or, subst, sym}
 use Rattle.std.specs.List.{All, remove}
 use Rattle.std.proofs.lemmas.List.Elements.{Contains-get_or, recursion_from_All}
-use Rattle.bdd.specs.Tree.{holds}
+use Rattle.bdd.specs.Tree.{holds, Point}
 use Rattle.bdd.specs.Diagram.{Diagram, IsValid, function_of, IsCanonical, Keeps}
 use Rattle.bdd.specs.declared.Ref.{Ref}
-use Rattle.primes.specs.Prime.{Point, Function, Product, IsImplicant, IsPrimeList, in_some, Covers}
+use Rattle.primes.specs.Prime.{Function, Product, IsImplicant, IsPrimeList, in_some, Covers}
 use Rattle.cover.specs.Cover.{IsLeft, IsCover}
 use Rattle.cover.specs.Sums.{IsWithin}
 use Rattle.cover.proofs.CoverLemmas.{left_covers, left_needed, left_each, sum_is}

@@ -4,9 +4,10 @@ use Rattle.std.specs.List.{All, AllByRecursion}
 use Rattle.std.proofs.lemmas.List.{take_more, drop_more}
 use Rattle.std.proofs.lemmas.List.Elements.{recursion_from_All, All-take, All-drop, All-append, All-from_recursion}
 use Rattle.bdd.specs.Diagram.{Diagram, function_of, ref_at, IsDisjunction}
+use Rattle.bdd.specs.Tree.{Point}
 use Rattle.bdd.specs.declared.Ref.{Ref}
 use Rattle.cover.specs.Sums.{IsSumRef, AreSumsBefore}
-use Rattle.primes.specs.Prime.{Point, Function, Product, IsImplicant, in_some}
+use Rattle.primes.specs.Prime.{Function, Product, IsImplicant, in_some}
 use Rattle.cover.specs.Cover.{IsDecided, IsLeft}
 use Rattle.cover.proofs.CoverLemmas.{in_some_append, left_each, sum_is}
 

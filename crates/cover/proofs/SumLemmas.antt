@@ -5,12 +5,12 @@ use Rattle.std.proofs.lemmas.List.{take_more, get_or_push}
 use Rattle.std.proofs.Math.ListN.{get_or-append}
 use Rattle.std.specs.List.{All, remove}
 use Rattle.std.specs.Cmp.Derive.{both_true}
-use Rattle.bdd.specs.Tree.{Tree, Leaf, Branch, holds, IsNormal}
+use Rattle.bdd.specs.Tree.{Tree, Leaf, Branch, holds, IsNormal, Point}
 use Rattle.bdd.specs.Diagram.{Diagram, IsValid, tree, function_of, IsCanonical, Keeps, IsConstant, IsConjunction, IsDisjunction, ref_at}
 use Rattle.bdd.specs.declared.Ref.{Ref}
 use Rattle.bdd.proofs.TreeLemmas.{with_var, with_var_same}
 use Rattle.bdd.proofs.Equality.{and_left, and_right}
-use Rattle.primes.specs.Prime.{Point, Function, Literal, Product, lies_in, suits, IsRising, IsPrime, in_some}
+use Rattle.primes.specs.Prime.{Function, Literal, Product, lies_in, suits, IsRising, IsPrime, in_some}
 use Rattle.primes.proofs.PrimeLemmas.{IsFreeOf, suits_self, lies_with_var}
 use Rattle.cover.specs.Sums.{IsWithin, IsLiteralRef, IsProductRef, IsSumRef, AreSumsBefore}
 use Rattle.cover.proofs.CoverLemmas.{in_some_append}

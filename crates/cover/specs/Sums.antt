@@ -1,8 +1,9 @@
 -- Products and sums of products as functions of a graph.
 use Rattle.std.specs.Prelude.{◌≡◌, ℕ, ◌<◌, Bool, List, length, take}
 use Rattle.bdd.specs.Diagram.{Diagram, IsValid, function_of, ref_at}
+use Rattle.bdd.specs.Tree.{Point}
 use Rattle.bdd.specs.declared.Ref.{Ref}
-use Rattle.primes.specs.Prime.{Point, Product, Literal, lies_in, suits, in_some}
+use Rattle.primes.specs.Prime.{Product, Literal, lies_in, suits, in_some}
 use Rattle.std.specs.List.{All}
 
 -- each place of the product is a variable of the graph

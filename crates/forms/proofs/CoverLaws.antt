@@ -5,13 +5,14 @@ use Rattle.std.specs.Option.{option_map}
 use Rattle.std.proofs.lemmas.List.{map-append, take_more}
 use Rattle.std.proofs.lemmas.List.Elements.{filter_map-append}
 use Rattle.std.proofs.lemmas.Option.{slice_get-map}
+use Rattle.bdd.specs.Tree.{Point}
 use Rattle.mig_base.specs.declared.plans.Part.{Part}
 use Rattle.mig_base.specs.declared.nets.Var.{Var}
 use Rattle.mig_base.specs.declared.nets.VarProduct.{VarProduct}
 use Rattle.mig_base.specs.declared.plans.Part.TheVariants.{Logic}
 use Rattle.bdd.specs.Diagram.{Diagram, function_of}
 use Rattle.bdd.specs.declared.Ref.{Ref}
-use Rattle.primes.specs.Prime.{Point, Product, Function, HasMorePrimes}
+use Rattle.primes.specs.Prime.{Product, Function, HasMorePrimes}
 use Rattle.cover.specs.Cover.{IsCover}
 use Rattle.rails.specs.declared.Side.{Side}
 use Rattle.rails.specs.declared.Rail.{Rail}

@@ -3,12 +3,13 @@ use Rattle.std.proofs.Common.{ℕ, ◌≡◌, Bool, true, false, cond, List, [],
 use Rattle.std.specs.Prelude.{IfOk}
 use Rattle.std.specs.declared.result.Result.{Result}
 use Rattle.std.specs.declared.result.Result.TheVariants.{Ok, Err}
+use Rattle.bdd.specs.Tree.{Point}
 use Rattle.mig_base.specs.declared.nets.Var.{Var}
 use Rattle.mig_base.specs.declared.plans.Part.{Part}
 use Rattle.mig_base.specs.declared.plans.Part.TheVariants as part
 use Rattle.bdd.specs.Diagram.{IsValid, function_of, Keeps}
 use Rattle.bdd.specs.declared.Ref.{Ref}
-use Rattle.primes.specs.Prime.{Point, Product, Function}
+use Rattle.primes.specs.Prime.{Product, Function}
 use Rattle.rails.specs.Variables.{all_rails}
 use Rattle.rails.proofs.ComposeLemmas.{function_kept}
 use Rattle.board.specs.Joined.{Joined, equations_of}

@@ -5,11 +5,12 @@ use Rattle.std.specs.List.{AllByRecursion, list_any, remove, slice_get}
 use Rattle.std.proofs.lemmas.Bool.{and_from, cases_eq}
 use Rattle.std.proofs.lemmas.List.Elements.{All-nil, All-cons}
 use Rattle.std.proofs.lemmas.Option.{same_Some, slice_get_within}
+use Rattle.bdd.specs.Tree.{Point}
 use Rattle.mig_base.specs.Among.{Among}
 use Rattle.mig_base.specs.Bools.{same_bool}
 use Rattle.mig_base.specs.declared.nets.Var.{Var}
 use Rattle.mig_base.specs.declared.nets.VarLit.{VarLit}
-use Rattle.primes.specs.Prime.{Point, Function, Literal, Product, suits, lies_in, in_some, IsRising, IsImplicant, IsPrime}
+use Rattle.primes.specs.Prime.{Function, Literal, Product, suits, lies_in, in_some, IsRising, IsImplicant, IsPrime}
 use Rattle.rails.specs.declared.Side.{Side}
 use Rattle.rails.specs.declared.Side.TheVariants.{Pure, High, Low}
 use Rattle.rails.specs.declared.Rail.{Rail}

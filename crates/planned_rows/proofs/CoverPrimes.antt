@@ -5,10 +5,11 @@ use Rattle.std.proofs.lemmas.Bool.{and_from, and_parts, cases_eq}
 use Rattle.std.proofs.lemmas.Bool.Decides.{nat_tests}
 use Rattle.std.proofs.lemmas.List.Elements.{Contains-get_or, recursion_from_All}
 use Rattle.bdd.proofs.TreeLemmas.{with_var}
+use Rattle.bdd.specs.Tree.{Point}
 use Rattle.mig_base.specs.Among.{Among}
 use Rattle.mig_base.specs.First.{made_from}
 use Rattle.mig_base.proofs.Amongs.{among-all}
-use Rattle.primes.specs.Prime.{Point, Function, Literal, Product, suits, lies_in, in_some, IsRising, IsImplicant, IsPrime, IsPrimeList, Covers}
+use Rattle.primes.specs.Prime.{Function, Literal, Product, suits, lies_in, in_some, IsRising, IsImplicant, IsPrime, IsPrimeList, Covers}
 use Rattle.primes.proofs.PrimeLemmas.{IsFreeOf, suits_self, suits_true, rising_weaken}
 use Rattle.primes.proofs.ListLemmas.{in_some_in}
 use Rattle.primes.proofs.ResultLemmas.{contains_in}

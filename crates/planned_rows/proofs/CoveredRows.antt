@@ -5,6 +5,7 @@ use Rattle.std.specs.List.{slice_get, filter_map, cons_option}
 use Rattle.std.specs.Option.{option_map}
 use Rattle.std.proofs.lemmas.Option.{same_Some, slice_get_within}
 use Rattle.std.proofs.lemmas.List.Elements.{All-head, All-tail}
+use Rattle.bdd.specs.Tree.{Point}
 use Rattle.mig_base.specs.declared.nets.Var.{Var}
 use Rattle.mig_base.specs.declared.nets.VarLit.{VarLit}
 use Rattle.mig_base.specs.declared.nets.VarProduct.{VarProduct}
@@ -14,7 +15,7 @@ use Rattle.mig_base.specs.declared.circuit.Driver.{Driver}
 use Rattle.mig_base.specs.Among.{Among}
 use Rattle.mig_base.specs.Values.{sum_reads}
 use Rattle.mig_base.proofs.ListLaws.{item-at}
-use Rattle.primes.specs.Prime.{Point, Function, Product}
+use Rattle.primes.specs.Prime.{Function, Product}
 use Rattle.primes.specs.Prime.{Literal}
 use Rattle.cover.specs.Cover.{IsCover}
 use Rattle.rails.specs.declared.Side.{Side}

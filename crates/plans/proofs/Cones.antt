@@ -1,6 +1,7 @@
 -- A cone has one list of variables, and a joined part one function.
 use Rattle.std.proofs.Common.{ℕ, suc, ◌≡◌, ◌<◌, ◌↔◌, Bool, true, List, [], ◌∷◌, map, refl, sym, ◌∙◌, subst, inl, inr, arith}
 use Rattle.std.specs.List.{AllPairs, Contains}
+use Rattle.bdd.specs.Tree.{Point}
 use Rattle.mig_base.specs.Among.{Among}
 use Rattle.mig_base.specs.declared.nets.Var.{Var}
 use Rattle.mig_base.specs.declared.nets.Var.TheVariants.{Net, Reg}
@@ -13,7 +14,7 @@ use Rattle.board.specs.Joined.{Joined, equations_of}
 use Rattle.board.specs.Variables.{read_of}
 use Rattle.joiner.specs.Joined.{IsCone, Inverted}
 use Rattle.joiner.specs.JoinedPart.{IsJoinedPart}
-use Rattle.primes.specs.Prime.{Point, Function}
+use Rattle.primes.specs.Prime.{Function}
 
 -- rising lists with the same items are the same
 

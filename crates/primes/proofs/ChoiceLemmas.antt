@@ -2,7 +2,8 @@
 use Rattle.std.proofs.Common.{refl, ◌≡◌, ℕ, ◌+◌, ◌<◌, ◌≤◌, Bool, true, false, ◌&&◌, cond, sym, ◌∙◌, ap, subst, arith, ◌⊎◌, inl, inr, List, [], ◌∷◌, ◌++◌, length, length-append, true≢false}
 use Rattle.std.specs.Cmp.Derive.{both_true}
 use Rattle.bdd.proofs.TreeLemmas.{with_var_other}
-use Rattle.primes.specs.Prime.{Product, Function, Point, IsRising, IsPrime, lies_in, in_some, suits}
+use Rattle.bdd.specs.Tree.{Point}
+use Rattle.primes.specs.Prime.{Product, Function, IsRising, IsPrime, lies_in, in_some, suits}
 use Rattle.primes.specs.Steps.{apart, prefixed, combined, In, AreSomePrimes, AreAllPrimes, AreMorePrimes, has}
 use Rattle.primes.proofs.PrimeLemmas.{choice, both, IsFreeOf, prime_both, both_prime, prime_low, prime_low_apart, low_prime, prime_high, prime_high_apart, high_prime, prime_from, suits_self}
 use Rattle.primes.proofs.ListLemmas.{in_left, in_right, in_append, in_prefixed, of_prefixed, in_apart, of_apart, prime_ext, distinct_append, distinct_apart, distinct_prefixed, apart_length, length_prefixed, in_some_in, some_in, has_in, in_has}

@@ -6,7 +6,8 @@ use Rattle.std.specs.Ordering.{nat_cmp, bool_cmp, ordering_then, is_eq}
 use Rattle.std.specs.Cmp.{IsTotalOrder, bool_cmp_total}
 use Rattle.std.specs.Cmp.Lexicographic.{slice_cmp}
 use Rattle.std.proofs.lemmas.Cmp.{then_total, on_total, back_total, lists_total, nat_cmp_total, tied_itself, ranked}
-use Rattle.primes.specs.Prime.{Literal, Product, Function, Point, IsPrime, literal_cmp, product_cmp, lies_in, in_some}
+use Rattle.bdd.specs.Tree.{Point}
+use Rattle.primes.specs.Prime.{Literal, Product, Function, IsPrime, literal_cmp, product_cmp, lies_in, in_some}
 use Rattle.primes.specs.Steps.{has, apart, prefixed, In, here, there, AreDistinct, AreSomePrimes, AreAllPrimes}
 
 -- membership

@@ -4,7 +4,8 @@ use Rattle.std.specs.List.{remove}
 use Rattle.std.specs.Cmp.Derive.{both_true}
 use Rattle.bdd.proofs.TreeLemmas.{with_var, with_var_same, with_var_other}
 use Rattle.bdd.proofs.Equality.{and_left, and_right}
-use Rattle.primes.specs.Prime.{Point, Product, Function, suits, lies_in, IsRising, IsImplicant, IsPrime}
+use Rattle.bdd.specs.Tree.{Point}
+use Rattle.primes.specs.Prime.{Product, Function, suits, lies_in, IsRising, IsImplicant, IsPrime}
 
 pub suits_self : (b : Bool) → suits b b ≡ true
 suits_self true = refl

@@ -3,13 +3,13 @@ use Rattle.std.proofs.Common.{◌≡◌, ℕ, ◌+◌, ◌-◌, ◌<◌, Bool, t
 use Rattle.std.specs.Prelude.{IsErrAnd, IfErr, IsTrue, ◌↔◌}
 use Rattle.std.specs.HashMap.{HashMap, get, Updates}
 use Rattle.std.specs.Map.{lookup}
-use Rattle.bdd.specs.Tree.{Tree, Leaf, Branch, holds, IsFrom, first_variable}
+use Rattle.bdd.specs.Tree.{Tree, Leaf, Branch, holds, IsFrom, first_variable, Point}
 use Rattle.bdd.specs.Diagram.{Diagram, IsValid, tree, function_of, IsCanonical, Keeps, IsConstant, IsBranch, IsConjunction}
 use Rattle.bdd.specs.declared.Ref.{Ref}
 use Rattle.bdd.specs.contracts.RefPartialEq.TheImpl as ref_eq
 use Rattle.bdd.proofs.Equality.{ref_exact}
 use Rattle.bdd.proofs.TreeLemmas.{with_var, with_var_other, holds_agree, normal_from}
-use Rattle.primes.specs.Prime.{Product, Function, Point, IsPrime}
+use Rattle.primes.specs.Prime.{Product, Function, IsPrime}
 use Rattle.primes.specs.Steps.{In, here, AreAllPrimes, AreMorePrimes, AreFound, IsGivenUp, combined}
 use Rattle.primes.specs.declared.PrimeError.{PrimeError}
 use Rattle.primes.specs.declared.PrimeError.TheVariants.{Over, Memory}

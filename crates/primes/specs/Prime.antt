@@ -5,10 +5,7 @@ use Rattle.std.specs.declared.cmp.Ordering.TheVariants.{Less}
 use Rattle.std.specs.Ordering.{nat_cmp, bool_cmp, ordering_then}
 use Rattle.std.specs.Cmp.Lexicographic.{slice_cmp}
 use Rattle.std.specs.List.{All, AllPairs, Contains, remove}
-
--- the values of the places
-abbrev pub Point : Type 0
-Point = ℕ → Bool
+use Rattle.bdd.specs.Tree.{Point}
 
 -- the points where a function holds
 abbrev pub Function : Type 0

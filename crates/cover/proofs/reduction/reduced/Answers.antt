@@ -1,9 +1,9 @@
 use Rattle.std.proofs.Common.{◌≡◌, ℕ, ◌+◌, ◌-◌, ◌<◌, ◌||◌, sym, ◌∙◌, ap, subst, arith, rules, List, [], ◌∷◌, length, take, drop, reverse, true≢false}
 use Rattle.std.proofs.lemmas.List.{get_or_read, reverse-append}
-use Rattle.bdd.specs.Tree.{holds}
+use Rattle.bdd.specs.Tree.{holds, Point}
 use Rattle.bdd.specs.Diagram.{function_of, Keeps}
 use Rattle.bdd.proofs.GraphLemmas.{keeps_trans}
-use Rattle.primes.specs.Prime.{Point, Product, in_some}
+use Rattle.primes.specs.Prime.{Product, in_some}
 use Rattle.cover.specs.Cover.{IsLeft}
 use Rattle.cover.specs.Sums.{IsSumRef}
 use Rattle.cover.proofs.SumLemmas.{within_at, sums_kept, sum_kept, sum_front}
