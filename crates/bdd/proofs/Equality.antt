@@ -1,6 +1,6 @@
 -- The derived `==` of the keys: it is equality.
 use Rattle.std.proofs.Common.{◌≡◌, ℕ, Bool, true, false, ◌&&◌, eqb, refl}
-use Rattle.std.proofs.lemmas.Bool.{eqb-true, eq-eqb}
+use Rattle.std.proofs.lemmas.Bool.{eqb-true, eq-eqb, and_parts}
 use Rattle.std.specs.Cmp.Derive.{both_true}
 use Rattle.bdd.specs.declared.Ref.{Ref}
 use Rattle.bdd.specs.declared.Entry.{Entry}
@@ -15,20 +15,12 @@ same_entry = (entry_eq.ghosts).eq
 abbrev pub same_operands : Operands → Operands → Bool
 same_operands = (operands_eq.ghosts).eq
 
-pub and_left : (a b : Bool) → (a && b) ≡ true → a ≡ true
-and_left true b h = refl
-and_left false b h = h
-
-pub and_right : (a b : Bool) → (a && b) ≡ true → b ≡ true
-and_right true b h = h
-and_right false b h = cc
-
 three_true : (a b c d e f : ℕ) → (eqb a b && (eqb c d && eqb e f)) ≡ true → (a ≡ b) × (c ≡ d) × (e ≡ f)
 three_true a b c d e f h =
-    let k = and_right (eqb a b) (eqb c d && eqb e f) h in (
-      eqb-true a b (and_left (eqb a b) (eqb c d && eqb e f) h),
-      eqb-true c d (and_left (eqb c d) (eqb e f) k),
-      eqb-true e f (and_right (eqb c d) (eqb e f) k),
+    let k = (and_parts (eqb a b) (eqb c d && eqb e f) h).1 in (
+      eqb-true a b (and_parts (eqb a b) (eqb c d && eqb e f) h).0,
+      eqb-true c d (and_parts (eqb c d) (eqb e f) k).0,
+      eqb-true e f (and_parts (eqb c d) (eqb e f) k).1,
     )
 
 three_self : (a b c : ℕ) → (eqb a a && (eqb b b && eqb c c)) ≡ true

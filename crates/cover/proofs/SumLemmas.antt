@@ -1,4 +1,5 @@
 -- Primes have variables of the graph alone, and the steps of the loops over products.
+use Rattle.std.proofs.lemmas.Bool.{and_parts}
 use Rattle.std.proofs.Common.{◌≡◌, ℕ, zero, suc, ◌+◌, ◌<◌, ◌≤◌, Bool, true, false, ◌&&◌, ◌||◌, cond, refl, sym, ◌∙◌, ap, subst, arith, ◌⊎◌, inl, inr, List, [], ◌∷◌, ◌++◌, length, length-append, get_or, take}
 use Rattle.std.proofs.lemmas.Bool.Decides.{nat_tests}
 use Rattle.std.proofs.lemmas.List.{take_more, get_or_push}
@@ -9,7 +10,6 @@ use Rattle.bdd.specs.Tree.{Tree, Leaf, Branch, holds, IsNormal, Point}
 use Rattle.bdd.specs.Diagram.{Diagram, IsValid, tree, function_of, IsCanonical, Keeps, IsConstant, IsConjunction, IsDisjunction, ref_at}
 use Rattle.bdd.specs.declared.Ref.{Ref}
 use Rattle.bdd.proofs.TreeLemmas.{with_var, with_var_same}
-use Rattle.bdd.proofs.Equality.{and_left, and_right}
 use Rattle.primes.specs.Prime.{Function, Literal, Product, lies_in, suits, IsRising, IsPrime, in_some}
 use Rattle.primes.proofs.PrimeLemmas.{IsFreeOf, suits_self, lies_with_var}
 use Rattle.cover.specs.Sums.{IsWithin, IsLiteralRef, IsProductRef, IsSumRef, AreSumsBefore}
@@ -40,8 +40,8 @@ lies_put (x ∷ t) j zero d p r l m =
 lies_put (x ∷ t) j (suc k) d p r l m =
     let g = get_or t k d in
     let lt : x.0 < g.0 = omega (arith, rising_at t (x.0 + 1) k d r.1 (omega arith)) in
-    both_true (ap (λ c. suits c x.1) (sym (with_var_before p g.0 g.1 x.0 lt)) ∙ and_left (suits (p x.0) x.1) (lies_in (remove t k) p) m)
-    (lies_put t (x.0 + 1) k d p r.1 (omega arith) (and_right (suits (p x.0) x.1) (lies_in (remove t k) p) m))
+    both_true (ap (λ c. suits c x.1) (sym (with_var_before p g.0 g.1 x.0 lt)) ∙ (and_parts (suits (p x.0) x.1) (lies_in (remove t k) p) m).0)
+    (lies_put t (x.0 + 1) k d p r.1 (omega arith) (and_parts (suits (p x.0) x.1) (lies_in (remove t k) p) m).1)
 
 -- a prime has no literal of a place that the function is free of
 pub prime_within : (f : Function) (n : ℕ) (t : Product) → ((w : ℕ) → n ≤ w → IsFreeOf f w) → IsPrime f t → IsWithin n t

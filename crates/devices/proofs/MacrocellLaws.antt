@@ -2,7 +2,7 @@
 use Rattle.std.proofs.Common.{ℕ, zero, suc, ◌≡◌, ◌+◌, ◌-◌, ◌*◌, ◌<◌, ◌≤◌, Bool, true, false, not, ◌||◌, ◌&&◌, if◌then◌else◌, List, [], ◌∷◌, ◌++◌, map, replicate, length, refl, sym, ap, ◌∙◌, subst, arith, IsTrue, eq-eqb}
 use Rattle.std.specs.List.{AllByRecursion}
 use Rattle.std.proofs.lemmas.List.{length-append, length-map, length-replicate}
-use Rattle.std.proofs.lemmas.Bool.{eqb-true, lt-ltb, not-true}
+use Rattle.std.proofs.lemmas.Bool.{eqb-true, lt-ltb, not-true, and_parts}
 use Rattle.std.proofs.Math.Bool.{not-not}
 use Rattle.mig_base.specs.declared.kinds.Kind.{Kind}
 use Rattle.mig_base.specs.declared.kinds.Kind.TheVariants.{Gal16V8, Gal20V8}
@@ -22,7 +22,7 @@ use Rattle.mig_base.specs.Cells as cells
 use Rattle.mig_base.specs.Cells.{is_among}
 use Rattle.mig_base.specs.WellFormed.{has_mode, is_reg, is_simple, is_registered, is_never, is_low_pin, has_enable_row, FitsCell, has_form, has_enable, has_inversions, most_terms, fits_row}
 use Rattle.mig_base.specs.WrittenCells.{enable_rows, filled, cell_rows, xor_fuse, ac1_fuse}
-use Rattle.mig_base.proofs.ListLaws.{and-right, or-left, all-append}
+use Rattle.mig_base.proofs.ListLaws.{or-left, all-append}
 use Rattle.devices.proofs.RowLaws.{IsDistinct, FitsColumns, distinct_pins, columns-distinct, length-columns}
 
 -- what the tables of a GAL16V8 or GAL20V8 hold
@@ -137,7 +137,7 @@ pub v8-register : (k : Kind) (m : Mode) (columns : List Lit) (pin : ℕ) (low pi
 v8-register k m columns pin low pin_low e t hf hi he =
     let reg : (false || (is_registered m || is_among [] pin)) ≡ true =
     subst (λ (ps : List ℕ). (false || (is_registered m || is_among ps pin)) ≡ true) t.no_pal (subst (λ (b : Bool). (b || (is_registered m || is_among (pal_registers k) pin)) ≡ true) t.not_22 hf) in
-    let inversion : (is_22 k || pin_low) ≡ true = and-right (is_v8 k || not low) (is_22 k || pin_low) hi in
+    let inversion : (is_22 k || pin_low) ≡ true = (and_parts (is_v8 k || not low) (is_22 k || pin_low) hi).1 in
     record {
       mode = or-left (is_registered m) (is_among [] pin) refl reg;
       pin = subst (λ (b : Bool). (b || pin_low) ≡ true) t.not_22 inversion;
@@ -152,7 +152,7 @@ cell-by k m columns pin form.Idle low pin_low e terms t hf hi he n =
     let is = idle-is pin low pin_low e terms hi he n in
     ap (of_cell k m) is ∙ idle-of k m pin ∙ sym is
 cell-by k m columns pin form.Comb low pin_low e terms t hf hi he n =
-    let low_pin : false ≡ pin_low = sym (not-true pin_low (and-right (is_gal k || low) (not pin_low) hi)) in
+    let low_pin : false ≡ pin_low = sym (not-true pin_low (and_parts (is_gal k || low) (not pin_low) hi).1) in
     subst (λ (b : Bool). of_cell k m (cell_with pin form.Comb low b e terms) ≡ cell_with pin form.Comb low b e terms) low_pin (comb-of k m columns pin low e terms he)
 cell-by k m columns pin form.Reg low pin_low e terms t hf hi he n =
     let r = v8-register k m columns pin low pin_low e t hf hi he in

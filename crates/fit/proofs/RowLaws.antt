@@ -2,11 +2,10 @@
 use Rattle.std.proofs.lemmas.Option.{same_Some}
 use Rattle.std.proofs.Common.{if◌then◌else◌, ℕ, zero, suc, ◌+◌, ◌++◌, take, get_or, ◌≡◌, ◌⊎◌, ◌<◌, Bool, true, false, not, ◌&&◌, ◌||◌, List, [], ◌∷◌, length, Option, Some, None, refl, sym, ap, ◌∙◌, subst, inl, inr, arith}
 use Rattle.std.specs.Prelude.{is_some}
-use Rattle.std.proofs.lemmas.Bool.{lt-ltb}
+use Rattle.std.proofs.lemmas.Bool.{lt-ltb, and_parts}
 use Rattle.std.proofs.lemmas.List.{take_more}
 use Rattle.std.specs.List.{slice_get, AllByRecursion}
 use Rattle.mig_base.specs.Among.{Among}
-use Rattle.mig_base.proofs.ListLaws.{and-true}
 use Rattle.mig_base.specs.declared.plans.Plan.{Plan}
 use Rattle.mig_base.specs.declared.plans.Part.{Part}
 use Rattle.mig_base.specs.declared.plans.Part.TheVariants as part
@@ -200,9 +199,9 @@ logic-made b absorbed x (form.TermsOver needed) h e = let wrong = e in cc
 
 pub rows-made : (b : Joined) (absorbed : List ℕ) (x : Placing) (parts : UnitParts) → AreParts b absorbed x parts → is_clear parts ≡ true → AreRows b absorbed x (row_by x parts)
 rows-made b absorbed x parts h e =
-    let one = and-true (is_fitting parts.logic) (is_row parts.enable && (is_row parts.reset && is_row parts.preset)) e in
-    let two = and-true (is_row parts.enable) (is_row parts.reset && is_row parts.preset) one.1 in
-    let three = and-true (is_row parts.reset) (is_row parts.preset) two.1 in
+    let one = and_parts (is_fitting parts.logic) (is_row parts.enable && (is_row parts.reset && is_row parts.preset)) e in
+    let two = and_parts (is_row parts.enable) (is_row parts.reset && is_row parts.preset) one.1 in
+    let three = and_parts (is_row parts.reset) (is_row parts.preset) two.1 in
     record {
       pin = refl;
       unit = refl;

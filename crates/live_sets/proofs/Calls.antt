@@ -2,7 +2,7 @@
 use Rattle.std.proofs.Common.{ℕ, ◌≡◌, Bool, true, false, ◌&&◌, ◌||◌, Option, Some, None, length, refl, sym, subst}
 use Rattle.std.specs.Prelude.{slice_get, ◌==◌, nat_lt}
 use Rattle.std.specs.List.{list_any}
-use Rattle.std.proofs.lemmas.Bool.{eqb-true, eq-eqb, ltb-true, lt-ltb}
+use Rattle.std.proofs.lemmas.Bool.{eqb-true, eq-eqb, ltb-true, lt-ltb, and_parts}
 use Rattle.mig_base.specs.declared.circuit.Read.{Read}
 use Rattle.mig_base.specs.declared.circuit.Read.TheVariants.{OfNet, OfRegister}
 use Rattle.mig_base.specs.declared.circuit.Gives.{Gives}
@@ -15,7 +15,6 @@ use Rattle.mig_base.specs.declared.circuit.Circuit.{Circuit}
 use Rattle.mig_base.specs.Among.{Among}
 use Rattle.mig_base.specs.First.{made_from}
 use Rattle.mig_base.proofs.Amongs.{any-among, among-any}
-use Rattle.mig_base.proofs.ListLaws.{and-true}
 use Rattle.structure.specs.Live.{unit_reads, DrivesWire, GivesQ, HasRegister, StandsBehind, NotHanded, WireNotHanded}
 
 -- a set of units
@@ -87,7 +86,7 @@ had-register k (Some d) p = given-q k d.gives p
 pub behind-stands : (c : Circuit) (u : ℕ) (v : Read) → stands_behind c u v ≡ true → StandsBehind c u v
 behind-stands c u (OfNet n) e = wire-drives u (slice_get c.nets n) e
 behind-stands c u (OfRegister k) e =
-    let both = and-true (nat_lt k (length c.registers)) (has_register k (slice_get c.units u)) e in
+    let both = and_parts (nat_lt k (length c.registers)) (has_register k (slice_get c.units u)) e in
     (ltb-true k (length c.registers) both.0, register-had k (slice_get c.units u) both.1)
 
 pub stands-behind : (c : Circuit) (u : ℕ) (v : Read) → StandsBehind c u v → stands_behind c u v ≡ true

@@ -2,7 +2,7 @@
 use Rattle.std.proofs.Common.{ℕ, zero, suc, ◌≡◌, ◌⊎◌, ◌<◌, ◌≤◌, ◌+◌, Bool, true, false, not, ◌&&◌, ◌||◌, List, [], ◌∷◌, filter, length, Option, Some, None, refl, sym, ap, ◌∙◌, subst, inl, inr, arith}
 use Rattle.std.specs.Prelude.{slice_get, slice_index_or, nat_lt}
 use Rattle.std.specs.List.{list_any}
-use Rattle.std.proofs.lemmas.Bool.{ltb-true, lt-ltb, ltb-false}
+use Rattle.std.proofs.lemmas.Bool.{ltb-true, lt-ltb, ltb-false, and_parts}
 use Rattle.std.proofs.lemmas.Option.{slice_get_within}
 use Rattle.std.proofs.lemmas.List.{get_or_past}
 use Rattle.mig_base.specs.declared.circuit.Read.{Read}
@@ -12,7 +12,7 @@ use Rattle.mig_base.specs.declared.circuit.Circuit.{Circuit}
 use Rattle.mig_base.specs.Among.{Among}
 use Rattle.mig_base.specs.First.{made_from}
 use Rattle.mig_base.proofs.Amongs.{any-among, among-any, filter-among, made-among}
-use Rattle.mig_base.proofs.ListLaws.{and-true, get_or-made_from, length-made_from}
+use Rattle.mig_base.proofs.ListLaws.{get_or-made_from, length-made_from}
 use Rattle.structure.specs.Live.{reads_of_unit, unit_reads, StandsBehind, IsLiveSet, IsLive, IsLiveness}
 use Rattle.live_sets.proofs.Calls.{Set, stands_behind, wire_not_handed, drives_port, is_read_by, calls, behind-stands, stands-behind, wire-shown, shown-wire}
 
@@ -61,11 +61,11 @@ called-live c set w sound e = λ other is. at other is (or-either (list_any (dri
     at : (other : ℕ → Bool) → IsLiveSet c other → (list_any (drives_port c w) c.ports ≡ true) ⊎ (list_any (is_read_by c set w) (numbers c) ≡ true) → other w ≡ true
     at other is (inl p) =
         let found = any-among (drives_port c w) c.ports p in
-        let both = and-true (wire_not_handed (slice_get c.nets found.0)) (stands_behind c w (OfNet found.0)) found.2 in
+        let both = and_parts (wire_not_handed (slice_get c.nets found.0)) (stands_behind c w (OfNet found.0)) found.2 in
         is.ports found.0 w (found.1, wire-shown (slice_get c.nets found.0) both.0) (behind-stands c w (OfNet found.0) both.1)
     at other is (inr p) =
         let found = any-among (is_read_by c set w) (numbers c) p in
-        let both = and-true (set found.0) (list_any (stands_behind c w) (unit_reads c found.0)) found.2 in
+        let both = and_parts (set found.0) (list_any (stands_behind c w) (unit_reads c found.0)) found.2 in
         let read = any-among (stands_behind c w) (unit_reads c found.0) both.1 in
         is.reads found.0 read.0 w (sound found.0 both.0 other is) read.1 (behind-stands c w read.0 read.2)
 

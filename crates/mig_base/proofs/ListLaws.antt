@@ -7,22 +7,9 @@ use Rattle.std.proofs.Math.Seq.{take-length}
 use Rattle.std.proofs.lemmas.Option.{same_Some}
 use Rattle.std.proofs.lemmas.List.{length-drop, length-append, length-map, length-reverse, get_or_append_left, get_or-append-add, get_or-map, get_or-reverse}
 
-pub and-true : (a b : Bool) → (a && b) ≡ true → (a ≡ true) × (b ≡ true)
-and-true true true e = (refl, refl)
-and-true true false e = cc
-and-true false b e = cc
-
 pub or-false : (a b : Bool) → (a || b) ≡ false → b ≡ false
 or-false true b e = cc
 or-false false b e = e
-
-pub and-left : (a b : Bool) → (a && b) ≡ true → a ≡ true
-and-left true b e = refl
-and-left false b e = cc
-
-pub and-right : (a b : Bool) → (a && b) ≡ true → b ≡ true
-and-right true b e = e
-and-right false b e = cc
 
 pub or-left : (a b : Bool) → b ≡ false → (a || b) ≡ true → a ≡ true
 or-left true b f e = refl

@@ -1,9 +1,9 @@
 -- The primes of a choice, by those of its sides and of what they share.
+use Rattle.std.proofs.lemmas.Bool.{and_parts}
 use Rattle.std.proofs.Common.{◌≡◌, ℕ, zero, suc, ◌+◌, ◌<◌, ◌≤◌, Bool, true, false, ◌&&◌, cond, refl, sym, ◌∙◌, ap, arith, nat_eq, ◌⊎◌, inl, inr, [], ◌∷◌, length, true≢false}
 use Rattle.std.specs.List.{remove}
 use Rattle.std.specs.Cmp.Derive.{both_true}
 use Rattle.bdd.proofs.TreeLemmas.{with_var, with_var_same, with_var_other}
-use Rattle.bdd.proofs.Equality.{and_left, and_right}
 use Rattle.bdd.specs.Tree.{Point}
 use Rattle.primes.specs.Prime.{Product, Function, suits, lies_in, IsRising, IsImplicant, IsPrime}
 
@@ -65,8 +65,8 @@ module _ (v : ℕ) (low high : Function) (low_free : IsFreeOf low v) (high_free 
   both_inside t h p m = by (p v)
     where
       by : (b : Bool) → cond b (high p) (low p) ≡ true
-      by true = and_right (low p) (high p) (h p m)
-      by false = and_left (low p) (high p) (h p m)
+      by true = (and_parts (low p) (high p) (h p m)).1
+      by false = (and_parts (low p) (high p) (h p m)).0
 
   -- with v false: inside the choice exactly where the rest is inside the low side
   pub inside_low : (t : Product) → IsRising (v + 1) t → IsImplicant (choice v low high) ((v, false) ∷ t) → IsImplicant low t
@@ -76,8 +76,8 @@ module _ (v : ℕ) (low high : Function) (low_free : IsFreeOf low v) (high_free 
 
   pub low_inside : (t : Product) → IsImplicant low t → IsImplicant (choice v low high) ((v, false) ∷ t)
   low_inside t h p m =
-      let e : p v ≡ false = suits_true (p v) false (and_left (suits (p v) false) (lies_in t p) m) in
-      ap (λ b. cond b (high p) (low p)) e ∙ h p (and_right (suits (p v) false) (lies_in t p) m)
+      let e : p v ≡ false = suits_true (p v) false (and_parts (suits (p v) false) (lies_in t p) m).0 in
+      ap (λ b. cond b (high p) (low p)) e ∙ h p (and_parts (suits (p v) false) (lies_in t p) m).1
 
   pub inside_high : (t : Product) → IsRising (v + 1) t → IsImplicant (choice v low high) ((v, true) ∷ t) → IsImplicant high t
   inside_high t r h p m =
@@ -86,8 +86,8 @@ module _ (v : ℕ) (low high : Function) (low_free : IsFreeOf low v) (high_free 
 
   pub high_inside : (t : Product) → IsImplicant high t → IsImplicant (choice v low high) ((v, true) ∷ t)
   high_inside t h p m =
-      let e : p v ≡ true = suits_true (p v) true (and_left (suits (p v) true) (lies_in t p) m) in
-      ap (λ b. cond b (high p) (low p)) e ∙ h p (and_right (suits (p v) true) (lies_in t p) m)
+      let e : p v ≡ true = suits_true (p v) true (and_parts (suits (p v) true) (lies_in t p) m).0 in
+      ap (λ b. cond b (high p) (low p)) e ∙ h p (and_parts (suits (p v) true) (lies_in t p) m).1
 
   -- the primes without v are those of what the sides share
   pub prime_both : (t : Product) → IsRising (v + 1) t → IsPrime (choice v low high) t → IsPrime (both low high) t
@@ -120,7 +120,7 @@ module _ (v : ℕ) (low high : Function) (low_free : IsFreeOf low v) (high_free 
   prime_of_both t h m = record {
     rising = h.rising;
     implicant = m;
-    largest = λ i l k. h.largest i l (λ p e. and_left (low p) (high p) (k p e));
+    largest = λ i l k. h.largest i l (λ p e. (and_parts (low p) (high p) (k p e)).0);
   }
 
   pub low_prime : (t : Product) → IsRising (v + 1) t → IsPrime low t → (IsPrime (both low high) t → ⊥) → IsPrime (choice v low high) ((v, false) ∷ t)
@@ -148,7 +148,7 @@ module _ (v : ℕ) (low high : Function) (low_free : IsFreeOf low v) (high_free 
   prime_of_both_high t h m = record {
     rising = h.rising;
     implicant = m;
-    largest = λ i l k. h.largest i l (λ p e. and_right (low p) (high p) (k p e));
+    largest = λ i l k. h.largest i l (λ p e. (and_parts (low p) (high p) (k p e)).1);
   }
 
   pub high_prime : (t : Product) → IsRising (v + 1) t → IsPrime high t → (IsPrime (both low high) t → ⊥) → IsPrime (choice v low high) ((v, true) ∷ t)

@@ -2,7 +2,7 @@
 use Rattle.std.proofs.Common.{ℕ, suc, ◌≡◌, ◌+◌, ◌-◌, ◌<◌, ◌≤◌, Bool, true, false, not, ◌||◌, if◌then◌else◌, List, [], ◌∷◌, ◌++◌, map, replicate, length, sym, ap, ◌∙◌, subst, arith}
 use Rattle.std.specs.List.{AllByRecursion}
 use Rattle.std.proofs.lemmas.List.{length-append, length-map}
-use Rattle.std.proofs.lemmas.Bool.{lt-ltb, not-true}
+use Rattle.std.proofs.lemmas.Bool.{lt-ltb, not-true, and_parts}
 use Rattle.std.proofs.Math.Bool.{not-not}
 use Rattle.mig_base.specs.declared.kinds.Kind.{Kind}
 use Rattle.mig_base.specs.declared.kinds.Mode.TheVariants.{Fixed}
@@ -18,7 +18,7 @@ use Rattle.mig_base.specs.DeviceTables.{enable_pin, rows_22, is_22, is_v8, is_ga
 use Rattle.mig_base.specs.Cells as cells
 use Rattle.mig_base.specs.WellFormed.{is_never, has_enable_row, is_low_pin, FitsCell, has_enable, has_inversions, most_terms, fits_row, fits_control}
 use Rattle.mig_base.specs.WrittenCells.{enable_rows, cell_rows}
-use Rattle.mig_base.proofs.ListLaws.{and-left, and-right, all-append}
+use Rattle.mig_base.proofs.ListLaws.{all-append}
 use Rattle.devices.proofs.RowLaws.{FitsColumns}
 use Rattle.devices.proofs.V22Tables.{IsV22Table}
 use Rattle.devices.proofs.MacrocellLaws.{cell_with, idle-is, comb-terms, terms-read, one-enable, filled-long, own_rows, never-fits, terms-fit, enable-row-fits, never-row-fits}
@@ -61,7 +61,7 @@ reg-enable : (k : Kind) (columns : List Lit) (e : Enable) → IsV22Table k → h
 reg-enable k columns e t h = subst (λ (b : Bool). (if b then is_never e || has_enable_row columns e else is_low_pin (enable_pin k) e) ≡ true) t.is h
 
 reg-low : (k : Kind) (low pin_low : Bool) → IsV22Table k → has_inversions k form.Reg low pin_low ≡ true → low ≡ false
-reg-low k low pin_low t h = not-true low (subst (λ (b : Bool). (b || not low) ≡ true) t.not_v8 (and-left (is_v8 k || not low) (is_22 k || pin_low) h))
+reg-low k low pin_low t h = not-true low (subst (λ (b : Bool). (b || not low) ≡ true) t.not_v8 (and_parts (is_v8 k || not low) (is_22 k || pin_low) h).0)
 
 cell-by : (n : ℕ) (k : Kind) (columns : List Lit) (pin : ℕ) (f : Form) (low pin_low : Bool) (e : Enable) (terms : List (List Lit)) → IsV22Table k →
     has_inversions k f low pin_low ≡ true → has_enable k Fixed columns f e ≡ true → length terms ≤ most_terms k Fixed pin f →
@@ -70,7 +70,7 @@ cell-by n k columns pin form.Idle low pin_low e terms t hi he m =
     let is = idle-is pin low pin_low e terms hi he m in
     ap (of_cell n) is ∙ sym is
 cell-by n k columns pin form.Comb low pin_low e terms t hi he m =
-    let shown : false ≡ pin_low = sym (not-true pin_low (and-right (is_gal k || low) (not pin_low) hi)) in
+    let shown : false ≡ pin_low = sym (not-true pin_low (and_parts (is_gal k || low) (not pin_low) hi).1) in
     subst (λ (b : Bool). of_cell n (cell_with pin form.Comb low b e terms) ≡ cell_with pin form.Comb low b e terms) shown (comb-again n pin low columns e terms he)
 cell-by n k columns pin form.Reg low pin_low e terms t hi he m =
     subst (λ (b : Bool). of_cell n (cell_with pin form.Reg b pin_low e terms) ≡ cell_with pin form.Reg b pin_low e terms) (sym (reg-low k low pin_low t hi))
@@ -121,4 +121,4 @@ rows-fit k columns cell t n h =
 -- a reset or preset row
 pub control-fits : (k : Kind) (columns : List Lit) (r : Row) → fits_control k columns r ≡ true → FitsColumns columns r
 control-fits k columns row.Never h = tt
-control-fits k columns (row.Product lits) h = and-right (is_22 k) (fits_row columns lits) h
+control-fits k columns (row.Product lits) h = (and_parts (is_22 k) (fits_row columns lits) h).1

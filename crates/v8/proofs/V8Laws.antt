@@ -1,4 +1,5 @@
 -- The fuses that are written for a GAL16V8 or GAL20V8 make its cells again.
+use Rattle.std.proofs.lemmas.Bool.{and_parts}
 use Rattle.std.proofs.Common.{ℕ, ◌≡◌, ◌+◌, ◌-◌, ◌*◌, ◌<◌, ◌≤◌, Bool, true, false, not, ◌||◌, if◌then◌else◌, List, [], ◌∷◌, ◌++◌, map, take, drop, reverse, replicate, length, get_or, refl, sym, ap, ◌∙◌, arith, IsTrue, Result, Ok, Err, Option, Some, None}
 use Rattle.std.specs.Prelude.{filter}
 use Rattle.std.specs.List.{AllByRecursion, list_all, flat_map}
@@ -22,7 +23,7 @@ use Rattle.mig_base.specs.Cells as cells
 use Rattle.mig_base.specs.Cells.{is_among}
 use Rattle.mig_base.specs.WellFormed.{has_mode, is_reg, is_registered, registers_in, chip_columns, FitsCell, IsWellFormed, fits_row, fits_control}
 use Rattle.mig_base.specs.WrittenCells.{column_fuse, row_fuses, cell_rows, xor_fuse, ac1_by, ac1_fuse, syn_fuse, ac0_fuse, v8_array, v8_settings, v8_fuses}
-use Rattle.mig_base.proofs.ListLaws.{and-left, length-pieces, piece-at, made_from-items, all-at, at-all, all-flat, all-map, all-reverse, all-both, skip, first-of, get_or-made_from, filter-map, filter-none}
+use Rattle.mig_base.proofs.ListLaws.{length-pieces, piece-at, made_from-items, all-at, at-all, all-flat, all-map, all-reverse, all-both, skip, first-of, get_or-made_from, filter-map, filter-none}
 use Rattle.devices.proofs.RowLaws.{FitsColumns, array-row}
 use Rattle.devices.proofs.MacrocellLaws.{IsV8Table, v8-table, v8-width, v8-distinct, cell-again, eight-rows, rows-fit, no-register, no_cell}
 
@@ -268,7 +269,7 @@ mode-again k Fixed h e = let no : not (is_v8 k) ≡ false = ap not h in cc
 
 control-never : (k : Kind) (columns : List Lit) (r : Row) → is_22 k ≡ false → fits_control k columns r ≡ true → row.Never ≡ r
 control-never k columns row.Never n h = refl
-control-never k columns (row.Product lits) n h = let yes : is_22 k ≡ true = and-left (is_22 k) (fits_row columns lits) h in cc
+control-never k columns (row.Product lits) n h = let yes : is_22 k ≡ true = (and_parts (is_22 k) (fits_row columns lits) h).0 in cc
 
 abbrev of_chip : Kind → Mode → List Cell → Row → Row → Result ChipCells ChipError
 of_chip k m cs reset preset = Ok (record { kind = k; mode = m; cells = cs; reset = reset; preset = preset })
