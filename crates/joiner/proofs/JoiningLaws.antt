@@ -30,12 +30,17 @@ use Rattle.joiner.specs.Joined.{Reading, StandsIn, itself, through, IsAbsorbed, 
 use Rattle.joiner.proofs.PartReads.{net-read}
 use Rattle.joiner.specs.JoinedPart.{ReadsVariables}
 use Rattle.joiner.specs.Marked.{AreNeededNets, marked, unit_at}
-use Rattle.joiner.specs.Pairs.{AreClosed, pair_at, pair_named, pair_by, is_pair, is_listed, is_known, lits_known, terms_known, IsProperPair, AreProper, ReadsPair, Reads, ReadsEither, AreReadings, opposite_reading, IsPairOf, IsNetPair, IsJoinedNode, ReadsNets, ReadPairs, IsWithin, HasPairs}
+use Rattle.joiner.specs.Pairs.{AreClosed, pair_at, pair_named, pair_by, is_pair, is_listed, is_known, lits_known, terms_known, IsProperPair, AreProper, ReadsPair, Reads, ReadsEither, AreReadings, opposite_reading, IsPairOf, IsNetPair, ReadsNets, ReadPairs, IsWithin, HasPairs}
 use Rattle.joiner.specs.declared.pairs.Pair.{Pair}
 use Rattle.joiner.proofs.Opposites.{terms_turned, inverted_turned}
 use Rattle.joiner.proofs.MirroredLaws.{literal_mirrored}
 use Rattle.joiner.proofs.PairLaws.{pairs_kept, reading_before, reading_after, reads_kept}
 use Rattle.joiner.proofs.OrderLaws.{read_before, new_there}
+
+-- a net gets its pair, and a register changes nothing
+abbrev pub IsJoinedNode : Joined → List (Option ℕ) → List (Var × Bool) → Diagram → List (Option Pair) → List (Option Pair) → Read → Type 0
+IsJoinedNode b nets vars d old new (OfNet n) = (o : Option Pair) × (new ≡ set old n o) × IsNetPair b nets vars d old n o
+IsJoinedNode b nets vars d old new (OfRegister k) = new ≡ old
 
 module _ (vars : List (Var × Bool)) (a b : Diagram) (pairs : List (Option Pair)) (k : Keeps a b) (proper : AreProper vars a pairs) (terms : List VarProduct) (plain : Ref) (sum : Reads vars a pairs (λ r. terms_read r true terms) plain) where
   -- a sum

@@ -12,3 +12,4 @@ pub mod OrderLaws
 pub mod Existence
 pub mod JoiningLaws
 pub mod JoinedLaws
+pub mod NodesByRank

@@ -24,9 +24,18 @@ use Rattle.board.specs.Variables.{IsVariable}
 use Rattle.joiner.specs.declared.marks.Marks.{Marks}
 use Rattle.joiner.specs.AbsorbedNets.{AreAbsorbedNets, AreAbsorbable, AreOver}
 use Rattle.joiner.specs.Joined.{IsAbsorbed, StandsIn, Names, itself, through, unit_part}
-use Rattle.joiner.specs.Marked.{AreNameMarks, marked, no_marks, with_vars, vars_in, unit_at, terms_behind, after_net, after_node, after_nodes}
+use Rattle.joiner.specs.Marked.{AreNameMarks, marked, no_marks, with_vars, vars_in, unit_at, terms_behind, after_net}
 use Rattle.joiner.proofs.Marking.{HasSize, IsWithin, size-none, size-vars, none-marked, vars-kept, vars-raised, vars-there, among-vars, vars-among}
 use Rattle.joiner.proofs.PartReads.{part-over, net-read}
+
+abbrev pub after_node : Joined → List (Option ℕ) → Marks → Read → Marks
+after_node b nets m (OfNet n) = after_net b nets m n
+after_node b nets m (OfRegister k) = m
+
+-- node by node, from the last one on
+abbrev pub after_nodes : Joined → List (Option ℕ) → Marks → List Read → Marks
+after_nodes b nets m [] = m
+after_nodes b nets m (v ∷ vs) = after_node b nets (after_nodes b nets m vs) v
 
 -- the entry of a net
 pub entry-at : (nets : List (Option ℕ)) (n u : ℕ) → unit_at nets n ≡ Some u → slice_get nets n ≡ Some (Some u)

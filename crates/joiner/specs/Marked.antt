@@ -4,16 +4,16 @@ use Rattle.std.specs.List.{flat_map}
 use Rattle.mig_base.specs.Among.{Among}
 use Rattle.mig_base.specs.First.{made_from}
 use Rattle.mig_base.specs.declared.circuit.Read.{Read}
-use Rattle.mig_base.specs.declared.circuit.Read.TheVariants.{OfNet, OfRegister}
 use Rattle.mig_base.specs.declared.nets.Var.{Var}
 use Rattle.mig_base.specs.declared.nets.Var.TheVariants.{Net, Reg}
 use Rattle.mig_base.specs.declared.nets.VarLit.{VarLit}
 use Rattle.mig_base.specs.declared.nets.VarProduct.{VarProduct}
 use Rattle.mig_base.specs.declared.plans.Part.TheVariants.{Logic}
+use Rattle.ranks.specs.Order.{IsOrder}
 use Rattle.structure.specs.Pure.{IsPure}
 use Rattle.board.specs.Joined.{Joined, equations_of}
 use Rattle.board.specs.UnitLists.{register_units}
-use Rattle.board.specs.Variables.{IsVariable, read_of}
+use Rattle.board.specs.Variables.{IsVariable, read_of, var_of}
 use Rattle.joiner.specs.declared.marks.Marks.{Marks}
 use Rattle.joiner.specs.Joined.{IsAbsorbed, Names, StandsIn, unit_part}
 
@@ -55,14 +55,18 @@ terms_behind b (Some u) = (unit_part b u Logic).terms
 abbrev pub after_net : Joined → List (Option ℕ) → Marks → ℕ → Marks
 after_net b nets m n = if marked m (Net n) then with_vars m (vars_in (terms_behind b (unit_at nets n))) else m
 
-abbrev pub after_node : Joined → List (Option ℕ) → Marks → Read → Marks
-after_node b nets m (OfNet n) = after_net b nets m n
-after_node b nets m (OfRegister k) = m
+-- variables in an order of evaluation
+abbrev pub AreInOrder : Joined → List Var → Type 0
+AreInOrder b vars = (order : List Read) × IsOrder (equations_of b) order × (vars ≡ map (var_of b.chips) order)
 
--- node by node, from the last one on
-abbrev pub after_nodes : Joined → List (Option ℕ) → Marks → List Read → Marks
-after_nodes b nets m [] = m
-after_nodes b nets m (v ∷ vs) = after_node b nets (after_nodes b nets m vs) v
+abbrev pub after_variable : Joined → List (Option ℕ) → Marks → Var → Marks
+after_variable b nets m (Net n) = after_net b nets m n
+after_variable b nets m (Reg u) = m
+
+-- variable by variable, from the last one on
+abbrev pub after_variables : Joined → List (Option ℕ) → Marks → List Var → Marks
+after_variables b nets m [] = m
+after_variables b nets m (v ∷ vs) = after_variable b nets (after_variables b nets m vs) v
 
 abbrev pub is_none : Option ℕ → Bool
 is_none None = true

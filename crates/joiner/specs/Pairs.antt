@@ -127,6 +127,6 @@ HasPairs b absorbed m vars pairs =
     (n u : ℕ) → marked m (Net n) ≡ true → IsAbsorbed b absorbed n u → IsWithin b absorbed vars (unit_part b u Logic).terms → is_pair (pair_at pairs n) ≡ true
 
 -- a net gets its pair, and a register changes nothing
-abbrev pub IsJoinedNode : Joined → List (Option ℕ) → List (Var × Bool) → Diagram → List (Option Pair) → List (Option Pair) → Read → Type 0
-IsJoinedNode b nets vars d old new (OfNet n) = (o : Option Pair) × (new ≡ slice_set old n o) × IsNetPair b nets vars d old n o
-IsJoinedNode b nets vars d old new (OfRegister k) = new ≡ old
+abbrev pub IsJoinedVariable : Joined → List (Option ℕ) → List (Var × Bool) → Diagram → List (Option Pair) → List (Option Pair) → Var → Type 0
+IsJoinedVariable b nets vars d old new (Net n) = (o : Option Pair) × (new ≡ slice_set old n o) × IsNetPair b nets vars d old n o
+IsJoinedVariable b nets vars d old new (Reg u) = new ≡ old

@@ -107,7 +107,7 @@ pub(crate) fn name_marks(
 {
     let mut marks = Marks::new(alloc, board.nets() as usize, board.units().len())?;
     marks.add_terms(terms);
-    mark_all(board, board.order(), nets, &mut marks);
+    mark_all(board, board.by_rank(), nets, &mut marks);
     Ok(marks)
 }
 

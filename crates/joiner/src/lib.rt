@@ -107,11 +107,11 @@ pub fn joined_with(
     let vars = copied(alloc, cone.as_slice())?;
     let needed = needed_nets(alloc, board, nets, &marks)?;
     let mut rails = Rails::new(alloc, cone)?;
-    let order = board.order();
+    let by_rank = board.by_rank();
     let pairs = joined_nets(
         alloc,
         board,
-        order,
+        by_rank,
         needed.as_slice(),
         vars.as_slice(),
         &mut rails,

@@ -2,14 +2,13 @@
 ghost use Rattle.std.specs.Prelude.{◌≡◌, ◌<◌, ℕ, true, List, length, IfOk, OnOk};
 ghost use Rattle.bdd.specs.Diagram.{IsCanonical, Keeps};
 ghost use Rattle.board.specs.Joined.{equations_of};
+ghost use Rattle.board.specs.Variables.{IsVariable};
 ghost use Rattle.rails.specs.Variables.{IsFit};
-ghost use Rattle.ranks.specs.Order.{IsOrder};
-ghost use Rattle.mig_base.specs.Reads.{IsNode};
 ghost use Rattle.joiner.specs.declared.marks.Marks.{Marks};
 ghost use Rattle.joiner.specs.AbsorbedNets.{AreAbsorbable};
-ghost use Rattle.joiner.specs.Marked.{AreNeededNets};
+ghost use Rattle.joiner.specs.Marked.{AreInOrder, AreNeededNets};
 ghost use Rattle.joiner.specs.Joined.{inverted_read};
-ghost use Rattle.joiner.specs.Pairs.{AreClosed, terms_known, AreProper, ReadsEither, IsPairOf, IsNetPair, IsJoinedNode, ReadPairs, HasPairs, NamesAbsorbable, pair_by as pair_of_both};
+ghost use Rattle.joiner.specs.Pairs.{AreClosed, terms_known, AreProper, ReadsEither, IsPairOf, IsNetPair, IsJoinedVariable, ReadPairs, HasPairs, NamesAbsorbable, pair_by as pair_of_both};
 
 use crate::pairs::{Pair, are_known, no_pairs};
 use crate::parts::{is_inverted, part_terms};
@@ -17,7 +16,7 @@ use crate::pass::unit_at_net;
 use crate::sums::sum;
 use bdd::Ref;
 use board::Board;
-use mig_base::{NoMemory, Part, Read, Var, VarProduct};
+use mig_base::{NoMemory, Part, Var, VarProduct};
 use rails::Rails;
 use std::alloc::Global;
 
@@ -114,13 +113,13 @@ fn net_pair(
 }
 
 /// Puts the pair of a net into the table.
-fn join_node(
+fn join_variable(
     board: &Board,
     nets: &[Option<u32>],
     vars: &[(Var, bool)],
     rails: &mut Rails,
     pairs: &mut Vec<Option<Pair>>,
-    node: Read,
+    variable: Var,
 ) -> Result<(), NoMemory>
     requires fit { IsFit rails.old }
     requires canonical { IsCanonical rails.old.graph }
@@ -129,13 +128,13 @@ fn join_node(
     requires absorbable { NamesAbsorbable (equations_of board.now) nets.now }
     requires nets { length nets.now ≡ length (equations_of board.now).nets }
     requires count { length pairs.old.items ≡ length nets.now }
-    requires node { IsNode (equations_of board.now) node }
+    requires variable { IsVariable board.now variable }
     ensures vars { rails.new.vars ≡ rails.old.vars }
     ensures keeps { Keeps rails.old.graph rails.new.graph }
     ensures canonical { IsCanonical rails.new.graph }
-    ensures joined { OnOk result (IsJoinedNode board.now nets.now rails.old.vars rails.new.graph pairs.old.items pairs.new.items node) }
+    ensures joined { OnOk result (IsJoinedVariable board.now nets.now rails.old.vars rails.new.graph pairs.old.items pairs.new.items variable) }
 {
-    let Read::OfNet(net) = node else {
+    let Var::Net(net) = variable else {
         return Ok(());
     };
     let pair = net_pair(board, nets, vars, rails, pairs.as_slice(), net)?;
@@ -147,12 +146,12 @@ fn join_node(
 pub(crate) fn joined_nets(
     alloc: Global,
     board: &Board,
-    order: &[Read],
+    by_rank: &[Var],
     nets: &[Option<u32>],
     vars: &[(Var, bool)],
     rails: &mut Rails,
 ) -> Result<Vec<Option<Pair>>, NoMemory>
-    requires order { IsOrder (equations_of board.now) order.now }
+    requires order { AreInOrder board.now by_rank.now }
     requires fit { IsFit rails.old }
     requires canonical { IsCanonical rails.old.graph }
     requires listed { vars.now ≡ rails.old.vars }
@@ -166,8 +165,8 @@ pub(crate) fn joined_nets(
     ensures every { IfOk result (λ pairs. (absorbed : List ℕ) (marks : Marks) → AreNeededNets board.now absorbed marks nets.now → AreAbsorbable board.now absorbed → AreClosed board.now absorbed marks → HasPairs board.now absorbed marks rails.old.vars pairs.items) }
 {
     let mut pairs = no_pairs(alloc, nets.len())?;
-    for node in order {
-        join_node(board, nets, vars, rails, &mut pairs, *node)?;
+    for variable in by_rank {
+        join_variable(board, nets, vars, rails, &mut pairs, *variable)?;
     }
     Ok(pairs)
 }

@@ -1,11 +1,11 @@
 ghost use Rattle.std.specs.Prelude.{◌≡◌};
 ghost use Rattle.mig_base.specs.declared.plans.Part.TheVariants.{Logic};
 ghost use Rattle.joiner.specs.Joined.{unit_part};
-ghost use Rattle.joiner.specs.Marked.{unit_at, terms_behind, after_net, after_nodes};
+ghost use Rattle.joiner.specs.Marked.{unit_at, terms_behind, after_net, after_variables};
 
 use crate::marks::Marks;
 use board::Board;
-use mig_base::{Part, Read, Var, VarProduct};
+use mig_base::{Part, Var, VarProduct};
 
 /// The absorbed unit that alone drives a net, by the table that `absorbed_nets` makes. None where there is none.
 pub fn unit_at_net(nets: &[Option<u32>], net: u32) -> Option<u32>
@@ -45,12 +45,12 @@ fn mark_behind(board: &Board, nets: &[Option<u32>], marks: &mut Marks, net: u32)
     }
 }
 
-/// Marks what stands behind nets that are absorbed and marked, from the last of these nodes to the first.
-pub(crate) fn mark_all(board: &Board, order: &[Read], nets: &[Option<u32>], marks: &mut Marks)
-    ensures { marks.new ≡ after_nodes board.now nets.now marks.old order.now }
+/// Marks what stands behind nets that are absorbed and marked, from the last of these variables to the first.
+pub(crate) fn mark_all(board: &Board, by_rank: &[Var], nets: &[Option<u32>], marks: &mut Marks)
+    ensures { marks.new ≡ after_variables board.now nets.now marks.old by_rank.now }
 {
-    for node in order.iter().rev() {
-        if let Read::OfNet(net) = node {
+    for variable in by_rank.iter().rev() {
+        if let Var::Net(net) = variable {
             mark_behind(board, nets, marks, *net);
         }
     }

@@ -1,5 +1,5 @@
 -- Levels that are no Z, and inversion.
-use Rattle.std.proofs.Common.{◌≡◌, ◌≢◌, Bool, true, false, cond, refl, sym, ◌&&◌, ◌||◌, absurd}
+use Rattle.std.proofs.Common.{◌≡◌, ◌≢◌, Bool, true, false, cond, refl, sym, ◌&&◌, ◌||◌}
 use Rattle.mig_base.specs.declared.levels.Level.{Level}
 use Rattle.mig_base.specs.declared.levels.Level.TheVariants.{Zero, One, Z, X}
 use Rattle.mig_base.specs.Bools.{same_bool}

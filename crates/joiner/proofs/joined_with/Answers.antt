@@ -7,6 +7,7 @@ use Rattle.joiner.specs.AbsorbedNets.{AreOver}
 use Rattle.joiner.specs.Joined.{Inverted, unit_part}
 use Rattle.joiner.specs.Marked.{needed_at}
 use Rattle.joiner.proofs.AbsorbedLaws.{nets-needed}
+use Rattle.joiner.proofs.NodesByRank.{ranks-in_order}
 use Rattle.joiner.proofs.PartReads.{part-over}
 use Rattle.joiner.proofs.JoinedLaws.{AreSteps, steps_made, refused_wide, names_absorbable, known_terms, joined_all, joined_value, cone_of_marks}
 use Rattle.joiner.proofs.joined_with.Goals as goal
@@ -28,6 +29,9 @@ new-requires-clause-rising c =
     let table = c.requires.table.1 in
     let terms = c.part_terms-terms.result.now in
     (cone_of_marks c.args.board.now c.requires.table.0 c.args.nets.now c.in_ok-marks.marks terms terms c.in_ok-cone.cone.items refl table (c.in_ok-marks.ensures c.requires.table.0 table.are table.may) c.in_ok-cone.ensures).rising
+
+pub joined_nets-requires-clause-order : goal.joined_nets-requires-clause-order
+joined_nets-requires-clause-order c = ranks-in_order c.args.board.now c.by_rank-by_rank.result.now c.by_rank-by_rank.ensures
 
 pub joined_nets-requires-clause-absorbable : goal.joined_nets-requires-clause-absorbable
 joined_nets-requires-clause-absorbable c =
@@ -66,11 +70,12 @@ returns-clause-joined c = λ absorbed table.
     let cone = c.in_ok-cone.cone.items in
     let steps : AreSteps b absorbed nets needed marks c.part_terms-terms.result.now cone =
     steps_made b absorbed nets needed marks c.part_terms-terms.result.now cone table (c.in_ok-marks.ensures absorbed table.are table.may) (c.as_slice-2.ensures.value ∙ c.in_ok-needed.ensures) c.in_ok-cone.ensures in
+    let by = ranks-in_order b c.by_rank-by_rank.result.now c.by_rank-by_rank.ensures in
     let same : made ≡ sum = (λ i. record { terms = c.part_terms-terms.ensures i; low = c.is_inverted-low.ensures i }) in
     let few : length cone ≤ 32 = omega (arith, c.in_ok-check_width.ensures.few, c.len.ensures) in
-    joined_all b absorbed nets needed needed marks c.order-order.result.now sum made cone c.in_ok-rails.rails.vars c.joined_nets.new.rails.vars c.inverted_sum.new.rails.vars
+    joined_all b absorbed nets needed needed marks by.0 sum made cone c.in_ok-rails.rails.vars c.joined_nets.new.rails.vars c.inverted_sum.new.rails.vars
     c.joined_nets.new.rails.graph c.inverted_sum.new.rails.graph c.in_ok-pairs.pairs.items c.as_slice-4.result.now c.in_ok-f.f
-    (subst (λ (ts : List VarProduct). AreSteps b absorbed nets needed marks ts cone) c.part_terms-terms.ensures steps) c.order-order.ensures few
+    (subst (λ (ts : List VarProduct). AreSteps b absorbed nets needed marks ts cone) c.part_terms-terms.ensures steps) by.1 few
     c.in_ok-rails.ensures.vars c.in_ok-pairs.ensures.vars c.in_ok-f.ensures.vars refl c.as_slice-4.ensures.value same
     c.in_ok-f.ensures.keeps c.in_ok-pairs.ensures.proper c.in_ok-pairs.ensures.read c.in_ok-f.ensures.sum
 
