@@ -1,5 +1,10 @@
 pub mod LevelLaws
 pub mod OrderLaws
 pub mod StepLaws
+pub mod StoreLaws
+pub mod ChangeLaws
+pub mod FollowLaws
+pub mod FollowSteps
+pub mod DriveLaws
 pub mod Known
 pub mod PureBoards

@@ -40,22 +40,22 @@ rule-agree c stored inputs l m (OfNet n) h = at (slice_get c.nets n) h
     at (Some w) h = ap (level_by inputs w.kind w.pull) (drives-of w.drivers h)
 rule-agree c stored inputs l m (OfRegister k) h = visible-agree l m c.registers stored k h
 
-placed-other : (l : Levels) (v : Read) (x : Level) (w : Read) → (w ≡ v → ⊥) → node_level (placed l v x) w ≡ node_level l w
+pub placed-other : (l : Levels) (v : Read) (x : Level) (w : Read) → (w ≡ v → ⊥) → node_level (placed l v x) w ≡ node_level l w
 placed-other l (OfNet n) x (OfNet m) h = get_or-set_other l.nets n m x X (λ e. h (ap OfNet e))
 placed-other l (OfNet n) x (OfRegister k) h = refl
 placed-other l (OfRegister k) x (OfNet n) h = refl
 placed-other l (OfRegister k) x (OfRegister j) h = get_or-set_other l.visible k j x X (λ e. h (ap OfRegister e))
 
-placed-same : (c : Circuit) (l : Levels) (v : Read) (x : Level) → HasLengths c l → IsNode c v → node_level (placed l v x) v ≡ x
+pub placed-same : (c : Circuit) (l : Levels) (v : Read) (x : Level) → HasLengths c l → IsNode c v → node_level (placed l v x) v ≡ x
 placed-same c l (OfNet n) x long node = get_or-set_same l.nets n x X (omega (arith, long.nets))
 placed-same c l (OfRegister k) x long node = get_or-set_same l.visible k x X (omega (arith, long.visible))
 
-placed-lengths : (c : Circuit) (l : Levels) (v : Read) (x : Level) → HasLengths c l → HasLengths c (placed l v x)
+pub placed-lengths : (c : Circuit) (l : Levels) (v : Read) (x : Level) → HasLengths c l → HasLengths c (placed l v x)
 placed-lengths c l (OfNet n) x long = record { nets = length-set l.nets n x ∙ long.nets; drives = long.drives; visible = long.visible }
 placed-lengths c l (OfRegister k) x long = record { nets = long.nets; drives = long.drives; visible = length-set l.visible k x ∙ long.visible }
 
 -- a node of the board that is read is done
-abbrev Done : Circuit → List Read → Read → Type 0
+abbrev pub Done : Circuit → List Read → Read → Type 0
 Done c done w = IsNode c w → Among w done
 
 -- the nodes that are done are what the others make of them, and read no other nodes
@@ -80,7 +80,7 @@ progress-start c stored inputs order l is long = record {
 }
 
 -- a node that is done stays as it is where a new one is placed
-reads-agree : (c : Circuit) (l : Levels) (v : Read) (x : Level) (done : List Read) → IsNode c v → (Among v done → ⊥) → (reads : List Read) →
+pub reads-agree : (c : Circuit) (l : Levels) (v : Read) (x : Level) (done : List Read) → IsNode c v → (Among v done → ⊥) → (reads : List Read) →
     AllByRecursion (Done c done) reads → AllByRecursion (Agree l (placed l v x)) reads
 reads-agree c l v x done node new reads h =
     all_mono (Done c done) (Agree l (placed l v x)) (λ w a. sym (placed-other l v x w (λ e. new (subst (Done c done) e a node)))) reads h
@@ -142,31 +142,33 @@ agree-drives l drives (OfRegister k) = refl
 pub same-drive : (l : Levels) (drives : List Level) (d : Driver) → drive_level l d ≡ drive_level (with_drives l drives) d
 same-drive l drives d = drive-agree l (with_drives l drives) d (every _ _ (agree-drives l drives) (row_reads d.enable ++ gives_reads d.gives))
 
--- with all nodes done and all drives made anew, the levels are settled
-pub progress-settled : (c : Circuit) (stored inputs : List Level) (l : Levels) → length stored ≡ length c.registers → Progress c stored inputs [] l →
+-- where all nodes fit and all drives are made anew, the levels are settled
+pub nodes-settled : (c : Circuit) (stored inputs : List Level) (l : Levels) → length stored ≡ length c.registers → HasLengths c l → ((v : Read) → IsNode c v → node_level l v ≡ new_level c stored inputs l v) →
     IsSettled c stored inputs (with_drives l (map (drive_level l) c.units))
-progress-settled c stored inputs l long p = record {
-  nets = ext_get_or X l.nets (map (wire_level inputs m) c.nets) (p.lengths.nets ∙ sym (length-map c.nets (wire_level inputs m)))
-      (λ n lt. node (OfNet n) (omega (arith, p.lengths.nets)) ∙ nets-at (slice_get c.nets n) ∙ sym (level_at-map (wire_level inputs m) c.nets n));
+nodes-settled c stored inputs l long lengths node = record {
+  nets = ext_get_or X l.nets (map (wire_level inputs m) c.nets) (lengths.nets ∙ sym (length-map c.nets (wire_level inputs m)))
+      (λ n lt. node (OfNet n) (omega (arith, lengths.nets)) ∙ nets-at (slice_get c.nets n) ∙ sym (level_at-map (wire_level inputs m) c.nets n));
   drives = map-agree (drive_level l) (drive_level m) (same-drive l m.drives) c.units;
-  visible = ext_get_or X l.visible (visible_levels l c.registers stored) (p.lengths.visible ∙ sym (visible-length l c.registers stored long))
-      (λ k lt. node (OfRegister k) (omega (arith, p.lengths.visible)))
+  visible = ext_get_or X l.visible (visible_levels l c.registers stored) (lengths.visible ∙ sym (visible-length l c.registers stored long))
+      (λ k lt. node (OfRegister k) (omega (arith, lengths.visible)))
       ∙ visible_all-agree l m (agree-drives l m.drives) c.registers stored;
 }
   where
     m : Levels
     m = with_drives l (map (drive_level l) c.units)
 
-    node : (v : Read) → IsNode c v → node_level l v ≡ new_level c stored inputs l v
-    node v is = by (p.all v is)
-      where
-        by : Among v p.done ⊎ Among v [] → node_level l v ≡ new_level c stored inputs l v
-        by (inl a) = p.fits v a
-        by (inr a) = absurd a
-
     nets-at : (o : Option Wire) → or_x (net_level c inputs l) o ≡ or_x (wire_level inputs (with_drives l (map (drive_level l) c.units))) o
     nets-at None = refl
     nets-at (Some w) = ap (level_by inputs w.kind w.pull) (map-agree (drive_of c l) (level_at (map (drive_level l) c.units)) (λ u. sym (level_at-map (drive_level l) c.units u)) w.drivers)
+
+-- with all nodes done and all drives made anew, the levels are settled
+pub progress-settled : (c : Circuit) (stored inputs : List Level) (l : Levels) → length stored ≡ length c.registers → Progress c stored inputs [] l →
+    IsSettled c stored inputs (with_drives l (map (drive_level l) c.units))
+progress-settled c stored inputs l long p = nodes-settled c stored inputs l long p.lengths (λ v is. by v (p.all v is))
+  where
+    by : (v : Read) → Among v p.done ⊎ Among v [] → node_level l v ≡ new_level c stored inputs l v
+    by v (inl a) = p.fits v a
+    by v (inr a) = absurd a
 
 -- one drive on
 pub drives-next : (f : Driver → Level) (units : List Driver) (old : List Level) (i : ℕ) (d : Driver) → i < length units → i < length old →

@@ -1,5 +1,5 @@
 -- Settled levels and steps of a board leave pure nodes at 0 or 1.
-use Rattle.std.proofs.Common.{◌≡◌, Bool, true, false, List, Option, Some, None, Result, Ok, Err, refl, sym, ap, ◌∙◌, subst}
+use Rattle.std.proofs.Common.{◌≡◌, Bool, true, false, List, length, Option, Some, None, Result, Ok, Err, refl, sym, ap, ◌∙◌, subst}
 use Rattle.std.specs.Prelude.{IfOk, IfSome, if◌then◌else◌}
 use Rattle.mig_base.specs.declared.levels.Level.{Level}
 use Rattle.mig_base.specs.declared.circuit.Circuit.{Circuit}
@@ -13,9 +13,11 @@ use Rattle.level_laws.proofs.PureNodes.{settled-pure}
 use Rattle.level_laws.proofs.PureSteps.{step-pure, start-pure}
 use Rattle.level_laws.proofs.DriverUnits.{drivers-units}
 use Rattle.settle.specs.declared.config.Config.{Config}
-use Rattle.settle.specs.Configs.{last_of}
-use Rattle.settle.specs.Made.{IsConfigFor, IsPureConfig}
-use Rattle.settle.proofs.Known.{none-given}
+use Rattle.mig_base.specs.declared.levels.Level.TheVariants.{Zero, X}
+use Rattle.settle.specs.Configs.{IsMadeFor, last_of}
+use Rattle.settle.specs.Rules.{unknown_levels}
+use Rattle.settle.specs.Made.{AreKnown, IsConfigFor, IsPureConfig}
+use Rattle.settle.proofs.Known.{known-same, none-given}
 use Rattle.board.specs.Joined.{Joined, equations_of}
 
 -- levels that settle on a board
@@ -61,3 +63,18 @@ same-settled a b stored levels given inputs l board is same settled =
 pub same-step : (a b : Circuit) (stored : List Level) (last : Option (List Level)) (given inputs now : List Level) → a ≡ b → given ≡ inputs → IsStep a stored last given now → IsStep b stored last inputs now
 same-step a b stored last given inputs now board same step =
     subst (λ (q : List Level). IsStep b stored last q now) same (subst (λ (q : Circuit). IsStep q stored last given now) board step)
+
+-- what is made for a board at power-up
+made-at-start : (c : Circuit) (config : Config) → IsMadeFor c config → config.stored ≡ power_up c → last_of config ≡ None → config.levels ≡ unknown_levels c → IsConfigFor c config
+made-at-start c config made stored last levels = record {
+  made = made;
+  stored = subst AreKnown (sym stored) (known-same (length c.registers) Zero (λ e. cc));
+  visible = subst AreKnown (sym (ap (λ (l : Levels). l.visible) levels)) (known-same (length c.registers) X (λ e. cc));
+  lawful = λ stepped. absurd (none-given config last stepped);
+}
+
+pub started-made : {E : Type 0} (board c : Circuit) (r : Result Config E) → board ≡ c → IfOk r (IsMadeFor board) → IfOk r (λ (config : Config). config.stored ≡ power_up board) →
+    IfOk r (λ (config : Config). last_of config ≡ None) → IfOk r (λ (config : Config). config.levels ≡ unknown_levels board) → IfOk r (IsConfigFor c)
+started-made board c (Ok config) same made stored last levels =
+    made-at-start c config (subst (λ (q : Circuit). IsMadeFor q config) same made) (stored ∙ ap power_up same) last (levels ∙ ap unknown_levels same)
+started-made board c (Err e) same made stored last levels = tt

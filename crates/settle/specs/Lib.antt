@@ -1,4 +1,5 @@
 pub mod Rules
 pub mod Edges
+pub mod Following
 pub mod Configs
 pub mod Made

@@ -1,25 +1,27 @@
-ghost use Rattle.std.specs.Prelude.{◌≡◌, ◌+◌, length, true, Some, None, replicate, IfOk};
+ghost use Rattle.std.specs.Prelude.{◌≡◌, ◌+◌, length, true, None, replicate, IfOk};
 ghost use Rattle.mig_base.specs.declared.levels.Level.TheVariants.{Zero as Low, X as Unknown};
-ghost use Rattle.level_laws.specs.Settled.{IsSettled};
-ghost use Rattle.level_laws.specs.Runs.{IsStep, power_up as stored_at_start, shown_levels};
+ghost use Rattle.level_laws.specs.Runs.{power_up as stored_at_start, shown_levels};
 ghost use Rattle.ranks.specs.Order.{IsOrder};
-ghost use Rattle.settle.specs.Configs.{IsMadeFor, handed_count as count_of_handed, last_of, is_handed as takes_level};
+ghost use Rattle.settle.specs.Configs.{IsMadeFor, handed_count as count_of_handed, handed_nets, last_of, is_handed as takes_level};
 ghost use Rattle.settle.specs.Rules.{HasLengths, unknown_levels};
 
-use crate::edges::store_next;
-use crate::evaluating::settle_circuit;
 use crate::values::level_at;
 use mig_base::{Circuit, Items, Level, Levels, NetKind, NoMemory, Read};
+use reader_lists::{Marks, Readers, readers_of};
 use std::alloc::Global;
 
 /// A board between two steps: what its registers store and, once a step was made, the last inputs and the levels settled
-/// under both. It has all the room that a step uses.
+/// under both. It has all the room that a step uses, and by which a step finds what changes: the nets that are handed a
+/// level, what reads each node, and marks.
 #[derive(Drop)]
 pub struct Config {
-    stored: Items<Level>,
-    last: Items<Level>,
-    stepped: bool,
-    levels: Levels,
+    pub(crate) stored: Items<Level>,
+    pub(crate) last: Items<Level>,
+    pub(crate) stepped: bool,
+    pub(crate) levels: Levels,
+    pub(crate) handed: Items<u32>,
+    pub(crate) readers: Readers,
+    pub(crate) marks: Marks,
 }
 
 /// Whether a net of this kind is handed a level.
@@ -40,6 +42,23 @@ pub(crate) fn count_handed(circuit: &Circuit) -> usize
         }
     }
     count
+}
+
+/// The nets that are handed a level.
+fn nets_handed(alloc: Global, circuit: &Circuit) -> Result<Items<u32>, NoMemory>
+    ensures { IfOk result (λ nets. nets ≡ handed_nets circuit.now) }
+{
+    let wires = circuit.nets.items();
+    if wires.len() > u32::MAX as usize {
+        return Err(NoMemory);
+    }
+    let mut nets = Vec::new(alloc);
+    for (net, wire) in wires.iter().enumerate() {
+        if is_handed(wire.kind) {
+            nets.push(net as u32)?;
+        }
+    }
+    Ok(Items::new(nets))
 }
 
 /// A list of so many equal levels.
@@ -69,7 +88,12 @@ pub(crate) fn room_for(alloc: Global, circuit: &Circuit) -> Result<Levels, NoMem
 }
 
 /// A circuit at power-up: all registers store 0, and no step was made. Only want of memory refuses it.
-pub(crate) fn at_power_up(alloc: Global, circuit: &Circuit) -> Result<Config, NoMemory>
+pub(crate) fn at_power_up(
+    alloc: Global,
+    circuit: &Circuit,
+    order: &[Read],
+) -> Result<Config, NoMemory>
+    requires { IsOrder circuit.now order.now }
     ensures made { IfOk result (λ config. IsMadeFor circuit.now config) }
     ensures stored { IfOk result (λ config. config.stored ≡ stored_at_start circuit.now) }
     ensures last { IfOk result (λ config. last_of config ≡ None) }
@@ -78,66 +102,18 @@ pub(crate) fn at_power_up(alloc: Global, circuit: &Circuit) -> Result<Config, No
     let stored = filled(alloc, Level::Zero, circuit.registers.items().len())?;
     let last = filled(alloc, Level::X, count_handed(circuit))?;
     let levels = room_for(alloc, circuit)?;
+    let handed = nets_handed(alloc, circuit)?;
+    let readers = readers_of(alloc, circuit, order)?;
+    let marks = Marks::new(alloc, circuit)?;
     Ok(Config {
         stored: Items::new(stored),
         last: Items::new(last),
         stepped: false,
         levels,
+        handed,
+        readers,
+        marks,
     })
-}
-
-/// Copies levels into a list of the same length.
-fn copy(from: &[Level], to: &mut Items<Level>)
-    requires { length to.old ≡ length from.now }
-    ensures { to.new ≡ from.now }
-{
-    for place in 0..from.len() {
-        to.set(place, from[place]);
-    }
-}
-
-/// Clocks the registers for these inputs, where a step was made before.
-fn clock(circuit: &Circuit, inputs: &[Level], config: &mut Config)
-    requires { IsMadeFor circuit.now config.old }
-    ensures step { IsStep circuit.now config.old.stored (last_of config.old) inputs.now config.new.stored }
-    ensures stored { length config.new.stored ≡ length config.old.stored }
-    ensures last { config.new.last ≡ config.old.last }
-    ensures levels { config.new.levels ≡ config.old.levels }
-{
-    if !config.stepped {
-        return;
-    }
-    store_next(
-        circuit,
-        &config.levels,
-        config.last.items(),
-        inputs,
-        &mut config.stored,
-    );
-}
-
-/// One step of a circuit to new inputs, one for each Input and Both port. The first step only sets the inputs. In a later one
-/// each register whose clock rises takes what the levels before the step make of it, and every other its visible Q. Then
-/// the levels settle. A step takes no memory.
-pub(crate) fn step_circuit(circuit: &Circuit, order: &[Read], config: &mut Config, inputs: &[Level])
-    requires order { IsOrder circuit.now order.now }
-    requires made { IsMadeFor circuit.now config.old }
-    requires inputs { length inputs.now ≡ count_of_handed circuit.now }
-    ensures made { IsMadeFor circuit.now config.new }
-    ensures step { IsStep circuit.now config.old.stored (last_of config.old) inputs.now config.new.stored }
-    ensures last { last_of config.new ≡ Some inputs.now }
-    ensures settled { IsSettled circuit.now config.new.stored inputs.now config.new.levels }
-{
-    clock(circuit, inputs, config);
-    copy(inputs, &mut config.last);
-    config.stepped = true;
-    settle_circuit(
-        circuit,
-        order,
-        config.stored.items(),
-        inputs,
-        &mut config.levels,
-    );
 }
 
 /// The level of every port after a step, in board order: one place for each.

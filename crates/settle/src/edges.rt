@@ -1,9 +1,14 @@
-ghost use Rattle.std.specs.Prelude.{◌≡◌, length};
+ghost use Rattle.std.specs.Prelude.{ℕ, ◌≡◌, ◌⊎◌, ◌<◌, true, length, slice_set};
+ghost use Rattle.mig_base.specs.Levels.{level_at as level_in_place};
 ghost use Rattle.level_laws.specs.Runs.{clock_by as clock_from, clock_level as level_of_clock, rises as clock_rises, taken as level_taken, next_stored};
+ghost use Rattle.reader_lists.specs.declared.lists.Reader.{Reader as ReaderOf};
+ghost use Rattle.reader_lists.specs.declared.lists.Reader.TheVariants.{ByRegister as OfRegister};
+ghost use Rattle.reader_lists.specs.Marked.{marked_in};
 ghost use Rattle.settle.specs.Edges.{next_level as level_next};
 
-use crate::values::{inverted, level_at, row_value, sum_value};
+use crate::values::{inverted, level_at, row_value, same_level, sum_value};
 use mig_base::{Circuit, Items, Level, Levels, NetKind, Register, and3, not3, or3};
+use reader_lists::Marks;
 
 /// The level of a clock net of this kind.
 fn clock_by(inputs: &[Level], kind: NetKind) -> Level
@@ -66,21 +71,37 @@ fn next_level(
     }
 }
 
-/// Puts what every register stores next in place of what it stores.
+/// Puts a level in place of what a register stores, and marks the register where that changes.
+fn store(stored: &mut Items<Level>, marks: &mut Marks, place: usize, level: Level)
+    requires { place < length stored.old }
+    ensures stored { stored.new ≡ slice_set stored.old place level }
+    ensures mark { (level_in_place stored.old place ≡ level) ⊎ (marked_in marks.new (OfRegister place) ≡ true) }
+    ensures keeps { (r : ReaderOf) → marked_in marks.old r ≡ true → marked_in marks.new r ≡ true }
+{
+    let was = stored.items()[place];
+    stored.set(place, level);
+    if !same_level(was, level) {
+        marks.mark_register(place);
+    }
+}
+
+/// Puts what every register stores next in place of what it stores, and marks each register where that changes.
 pub(crate) fn store_next(
     circuit: &Circuit,
     levels: &Levels,
     before: &[Level],
     now: &[Level],
     stored: &mut Items<Level>,
+    marks: &mut Marks,
 )
     requires visible { length levels.now.visible ≡ length circuit.now.registers }
     requires stored { length stored.old ≡ length circuit.now.registers }
-    ensures { stored.new ≡ next_stored circuit.now levels.now before.now now.now circuit.now.registers levels.now.visible }
+    ensures next { stored.new ≡ next_stored circuit.now levels.now before.now now.now circuit.now.registers levels.now.visible }
+    ensures marked { (k : ℕ) → (level_in_place stored.old k ≡ level_in_place stored.new k) ⊎ (marked_in marks.new (OfRegister k) ≡ true) }
 {
     let seen = levels.visible.items();
     for (place, register) in circuit.registers.items().iter().enumerate() {
         let level = next_level(circuit, levels, before, now, register, seen[place]);
-        stored.set(place, level);
+        store(stored, marks, place, level);
     }
 }

@@ -10,7 +10,13 @@ use crate::values::{drive_level, visible_level};
 use mig_base::{Circuit, Level, Levels, Read};
 
 /// Makes a node anew.
-fn renew(circuit: &Circuit, node: Read, stored: &[Level], inputs: &[Level], out: &mut Levels)
+pub(crate) fn renew(
+    circuit: &Circuit,
+    node: Read,
+    stored: &[Level],
+    inputs: &[Level],
+    out: &mut Levels,
+)
     requires node { IsNode circuit.now node }
     requires stored { length stored.now ≡ length circuit.now.registers }
     requires nets { length out.old.nets ≡ length circuit.now.nets }

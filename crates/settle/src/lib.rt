@@ -4,6 +4,9 @@
 mod config;
 mod edges;
 mod evaluating;
+mod following;
+mod inputs;
+mod marked;
 mod nets;
 mod present;
 mod settling;

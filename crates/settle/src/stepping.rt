@@ -6,7 +6,8 @@ ghost use Rattle.level_laws.specs.PureLevels.{HasPureStored};
 ghost use Rattle.board.specs.Joined.{equations_of};
 ghost use Rattle.settle.specs.Made.{IsInputFor, IsConfigFor, IsPureConfig};
 
-use crate::config::{Config, at_power_up, count_handed, show_ports, step_circuit};
+use crate::config::{Config, at_power_up, count_handed, show_ports};
+use crate::following::step_circuit;
 use board::Board;
 use mig_base::{Inputs, Level, NoMemory};
 use std::alloc::Global;
@@ -26,7 +27,7 @@ pub fn power_up(alloc: Global, b: &Board) -> Result<Config, NoMemory>
     ensures made { IfOk result (IsConfigFor (equations_of b.now)) }
     ensures pure { IfOk result (IsPureConfig (equations_of b.now)) }
 {
-    at_power_up(alloc, b.circuit())
+    at_power_up(alloc, b.circuit(), b.order())
 }
 
 /// One step of a board to new inputs. The first step only sets the inputs. In a later one each register whose clock rises

@@ -1,4 +1,4 @@
-ghost use Rattle.std.specs.Prelude.{◌≡◌, ◌≢◌};
+ghost use Rattle.std.specs.Prelude.{◌≡◌, ◌≢◌, true};
 ghost use Rattle.mig_base.specs.declared.levels.Level.TheVariants.{Z as Floating};
 ghost use Rattle.mig_base.specs.Levels.{level_at as level_in_place, read_level as level_read};
 ghost use Rattle.mig_base.specs.Values.{node_level, literal_value as value_of_literal, product_value as value_of_product, sum_value as value_of_sum, row_value as value_of_row, inverted as inverted_if};
@@ -18,6 +18,23 @@ pub(crate) fn level_at(levels: &[Level], place: u32) -> Level
     } else {
         Level::X
     }
+}
+
+/// What stands at a node.
+pub(crate) fn level_of(levels: &Levels, node: Read) -> Level
+    ensures { result ≡ node_level levels.now node }
+{
+    match node {
+        Read::OfNet(net) => level_at(levels.nets.items(), net),
+        Read::OfRegister(register) => level_at(levels.visible.items(), register),
+    }
+}
+
+/// Whether two levels are the same.
+pub(crate) fn same_level(one: Level, other: Level) -> bool
+    ensures { result ≡ true → one ≡ other }
+{
+    one == other
 }
 
 /// What stands at a node, where a floating one reads X.

@@ -1,6 +1,6 @@
 use Rattle.std.proofs.Common.{ℕ, ◌≡◌, ◌<◌, length}
 use Rattle.mig_base.specs.Levels.{level_at}
-use Rattle.settle.proofs.config.copy.Given as goal
+use Rattle.settle.proofs.following.copy.Given as goal
 
 abbrev pub invariant-loop-place : goal.invariant-loop-place
 invariant-loop-place l = record {

@@ -1,0 +1,3 @@
+pub mod Putting
+pub mod Adding
+pub mod Flags
