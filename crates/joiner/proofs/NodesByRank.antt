@@ -1,5 +1,5 @@
 -- A walk by variables is one by their nodes.
-use Rattle.std.proofs.Common.{ℕ, ◌≡◌, ◌<◌, List, [], ◌∷◌, map, length, get_or, refl, sym, ap, ◌∙◌, subst}
+use Rattle.std.proofs.Common.{ℕ, ◌≡◌, ◌<◌, Bool, Option, List, [], ◌∷◌, map, length, get_or, refl, sym, ap, ◌∙◌, subst}
 use Rattle.std.proofs.lemmas.List.{get_or-map, length-map}
 use Rattle.mig_base.specs.declared.circuit.Read.{Read}
 use Rattle.mig_base.specs.declared.circuit.Read.TheVariants.{OfNet, OfRegister}
@@ -39,13 +39,13 @@ module _ (b : Joined) (vars : List Var) (order : List Read) (is : IsOrder (equat
   node_at = get_or order i (OfNet 0)
 
   pub node-low : i < length order
-  node-low = subst (λ (n : ℕ). i < n) (ap length same ∙ length-map (var_of b.chips) order) low
+  node-low = subst (λ (n : ℕ). i < n) (ap length same ∙ length-map order (var_of b.chips)) low
 
   pub node-is : IsNode (equations_of b) node_at
   node-is = among-all (IsNode (equations_of b)) node_at order is.nodes (item_among (OfNet 0) order i node-low)
 
   pub variable-is : get_or vars i (Net 0) ≡ var_of b.chips node_at
-  variable-is = ap (λ (vs : List Var). get_or vs i (Net 0)) same ∙ get_or-map (var_of b.chips) order i (OfNet 0)
+  variable-is = ap (λ (vs : List Var). get_or vs i (Net 0)) same ∙ get_or-map (var_of b.chips) order i (OfNet 0) (Net 0) node-low
 
   pub variable-of_board : IsVariable b (get_or vars i (Net 0))
   variable-of_board = subst (IsVariable b) (sym variable-is) (var-variable b node_at node-is)

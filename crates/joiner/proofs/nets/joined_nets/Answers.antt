@@ -84,7 +84,7 @@ returns-clause-every c = λ absorbed marks are may closed.
     let is = c.requires.order in
     let b = c.args.board.now in
     let vars = c.args.rails.now.vars in
-    let past : length is.0 ≤ c.loop-variable.variable-index = subst (λ (n : ℕ). n ≤ c.loop-variable.variable-index) (ap length is.2 ∙ length-map (var_of b.chips) is.0) c.loop-variable-test.false in
+    let past : length is.0 ≤ c.loop-variable.variable-index = subst (λ (n : ℕ). n ≤ c.loop-variable.variable-index) (ap length is.2 ∙ length-map is.0 (var_of b.chips)) c.loop-variable-test.false in
     has_all b absorbed marks vars c.loop-variable.pairs.items is.0 is.1
     (subst (HasPairsOf b absorbed marks vars c.loop-variable.pairs.items) (take_all c.loop-variable.variable-index is.0 past)
     (c.loop-variable.invariant.every is.0 is.1 is.2 absorbed marks are may closed))
