@@ -18,6 +18,7 @@ use Rattle.structure.specs.Live.{DrivesWire}
 use Rattle.new_board.specs.NewChip.{NewChip}
 use Rattle.new_board.proofs.KeptNumbers.{old_kept}
 use Rattle.new_board.proofs.NewWiring.{kept_of}
+use Rattle.new_board.proofs.Wiring.{wire_of}
 use Rattle.new_board.proofs.WellMade.{IsFitChip}
 use Rattle.plans.specs.Placings.{old}
 use Rattle.plans.specs.Forms.{is_absorbed_read}
@@ -76,11 +77,11 @@ module _ (b : Joined) (absorbed : List ℕ) (live : ℕ → Bool) (chips : List 
       let n = old_kept (kept_of (old b) chips) m in
       let k = wire-kind (new_wiring b chips) (new_units b chips) m w on in
       let u = absorbed-net (equations_of b) absorbed n (unseen b absorbed chips m n seen (ap (option_and_then (λ (o : Option ℕ). o)) kept.stands)) in
-      let same : Some _ ≡ Some u.1.wire = sym (kind-wire b.net (units_from 0 b.chips) n k.0 (sym kept.kind ∙ k.1)) ∙ u.1.on in
-      ap (λ (x : Wire). x.kind) k.2 ∙ ap (λ (x : Wire). x.kind) (same_Some _ u.1.wire same) ∙ absorbed-inner (equations_of b) absorbed planned.absorbable wired n u.0 accepted u.1
-  kind (inr (inl private)) =
+      let same : wire_of b.net (units_from 0 b.chips) n k.0 ≡ u.1.wire = same_Some (wire_of b.net (units_from 0 b.chips) n k.0) u.1.wire (sym (kind-wire b.net (units_from 0 b.chips) n k.0 (sym kept.kind ∙ k.1)) ∙ u.1.on) in
+      ap (λ (x : Wire). x.kind) k.2 ∙ ap (λ (x : Wire). x.kind) same ∙ absorbed-inner (equations_of b) absorbed planned.absorbable wired n u.0 accepted u.1
+  kind (inr (inl own)) =
       let k = wire-kind (new_wiring b chips) (new_units b chips) m w on in
-      ap (λ (x : Wire). x.kind) k.2 ∙ ap (λ (x : NetKind × Pull). x.0) (same_Some k.0 (Inner, Free) (sym k.1 ∙ private.kind))
+      ap (λ (x : Wire). x.kind) k.2 ∙ ap (λ (x : NetKind × Pull). x.0) (same_Some k.0 (Inner, Free) (sym k.1 ∙ own.kind))
   kind (inr (inr none)) =
       let k = wire-kind (new_wiring b chips) (new_units b chips) m w on in
       let wrong : Some k.0 ≡ None = sym k.1 ∙ none.kind in

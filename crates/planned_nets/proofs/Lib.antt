@@ -6,3 +6,13 @@ pub mod EnablePins
 pub mod NeverDrives
 pub mod NewDrivers
 pub mod IdleNets
+pub mod PinReasons
+pub mod PinsApart
+pub mod PinLines
+pub mod PrivateNets
+pub mod SameNet
+pub mod NewCells
+pub mod Floating
+pub mod PlacedDrivers
+pub mod MatchedNets
+pub mod PlacedNets
