@@ -1,5 +1,5 @@
 -- The pin of each unit of a given board is one of the board's, and stands on a net of it.
-use Rattle.std.proofs.Common.{ℕ, zero, suc, ◌≡◌, ◌+◌, Bool, true, false, List, [], ◌∷◌, map, length, Option, Some, None, Ok, Err, refl, sym, ap, ◌∙◌, subst, arith}
+use Rattle.std.proofs.Common.{ℕ, zero, suc, ◌≡◌, Bool, true, false, if◌then◌else◌, List, [], ◌∷◌, length, Option, Some, None, Ok, refl, sym, ap, ◌∙◌, subst}
 use Rattle.std.specs.List.{list_all, slice_get}
 use Rattle.mig_base.specs.declared.cells.Cell.{Cell}
 use Rattle.mig_base.specs.declared.cells.ChipCells.{ChipCells}
@@ -11,7 +11,7 @@ use Rattle.mig_base.specs.declared.nets.ChipLine.{ChipLine}
 use Rattle.mig_base.specs.declared.nets.Net.{Net}
 use Rattle.mig_base.specs.declared.circuit.Wire.{Wire}
 use Rattle.mig_base.specs.Among.{Among}
-use Rattle.mig_base.specs.Boards.{At, ChipUnit, at_of, circuit, net_of, pins_from, units_from}
+use Rattle.mig_base.specs.Boards.{ChipUnit, at_of, circuit, net_of, pins_from, units_from}
 use Rattle.mig_base.specs.Cells.{is_among, cells_22, cells_by_kind, pal_cells, v8_cells_in, v8_mode, v8_refusal, syn, ac0}
 use Rattle.mig_base.specs.DeviceTables.{cell_pins, has_count, is_22, is_v8, ordinary_pins}
 use Rattle.mig_base.specs.First.{unless}
@@ -24,7 +24,7 @@ use Rattle.new_board.proofs.Wiring.{LinesFit}
 use Rattle.rebuilt_boards.proofs.BoardForms.{wiring-lines, writable-lines}
 use Rattle.rebuilt_boards.proofs.Ranges.{net-within}
 use Rattle.read_nodes.proofs.Columns.{pin-among}
-use Rattle.read_nodes.proofs.Sources.{IsOn, pin_of, pin-of-line, unit-on}
+use Rattle.read_nodes.proofs.Sources.{pin_of, pin-of-line, unit-on}
 
 -- made cells are of their line's kind
 
