@@ -1,7 +1,6 @@
 -- Nets that an absorbed unit alone drives.
-use Rattle.std.proofs.Common.{ℕ, ◌≡◌, Bool, true, false, List, [], ◌∷◌, Option, Some, None, refl, sym, ap, ◌∙◌, subst, inl, eqb, eqb-true, eq-eqb}
-use Rattle.std.specs.List.{list_any, slice_get}
-use Rattle.std.proofs.lemmas.Option.{same_Some}
+use Rattle.std.proofs.Common.{ℕ, ◌≡◌, true, List, [], ◌∷◌, Option, Some, None, refl, sym, ap, ◌∙◌, subst, inl, eqb, eqb-true, eq-eqb}
+use Rattle.std.specs.List.{slice_get}
 use Rattle.mig_base.specs.declared.circuit.NetKind.{NetKind}
 use Rattle.mig_base.specs.declared.circuit.NetKind.TheVariants.{Ground, Power, Handed, Shared, Inner}
 use Rattle.mig_base.specs.declared.circuit.Read.TheVariants.{OfNet}
@@ -11,7 +10,7 @@ use Rattle.mig_base.specs.Accepted.{IsAccepted, is_fixed}
 use Rattle.mig_base.specs.Among.{Among}
 use Rattle.mig_base.specs.Structure.{is_shared}
 use Rattle.mig_base.proofs.Amongs.{among-any, any-among}
-use Rattle.structure.specs.Absorbable.{AbsorbsAt, IsAbsorbable}
+use Rattle.structure.specs.Absorbable.{IsAbsorbable}
 use Rattle.structure.specs.Live.{DrivesWire}
 use Rattle.plans.specs.Forms.{is_absorbed_read, is_absorbed_wire, is_sole_absorbed}
 use Rattle.fitting_levels.specs.Fitting.{IsAbsorbed}

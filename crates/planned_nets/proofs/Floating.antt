@@ -1,5 +1,5 @@
 -- An old unit floats where its enable is 0 at all levels that fit.
-use Rattle.std.proofs.Common.{ℕ, ◌≡◌, Bool, true, false, List, [], ◌∷◌, map, Option, Some, None, refl, sym, ap, ◌∙◌, subst}
+use Rattle.std.proofs.Common.{ℕ, ◌≡◌, false, List, Some, refl, sym, ap, ◌∙◌}
 use Rattle.std.specs.List.{slice_get}
 use Rattle.mig_base.specs.declared.levels.Level.{Level}
 use Rattle.mig_base.specs.declared.levels.Level.TheVariants.{Zero, Z}
@@ -8,12 +8,12 @@ use Rattle.mig_base.specs.declared.circuit.Gate.{Gate}
 use Rattle.mig_base.specs.declared.circuit.Gate.TheVariants.{Never, Product}
 use Rattle.mig_base.specs.declared.circuit.Circuit.{Circuit}
 use Rattle.mig_base.specs.Boards.{can_drive}
-use Rattle.mig_base.specs.Levels.{gated, or_x}
+use Rattle.mig_base.specs.Levels.{or_x}
+use Rattle.level_laws.specs.Settled.{gated}
 use Rattle.mig_base.specs.Values.{inverted}
 use Rattle.board.specs.Joined.{Joined, equations_of}
 use Rattle.new_board.specs.declared.types.PlacedUnit.{PlacedUnit}
 use Rattle.new_board.specs.NewChip.{gate_products}
-use Rattle.fitting_levels.specs.Fitting.{AreFitting}
 use Rattle.fitting_levels.specs.NodeValues.{NodeLevels, drive_at, drive_by, gate_by, logic_by, terms_by}
 use Rattle.carried_boards.specs.Carries.{Numbers, Floats, through}
 use Rattle.placed_boards.specs.Places.{IsPlacedUnit}

@@ -11,10 +11,9 @@ use Rattle.mig_base.specs.declared.circuit.Read.TheVariants.{OfNet}
 use Rattle.mig_base.specs.declared.circuit.Wire.{Wire}
 use Rattle.mig_base.specs.Accepted.{IsAccepted}
 use Rattle.mig_base.specs.Among.{Among}
-use Rattle.mig_base.specs.Boards.{ChipUnit, at_of, kinds_of, net_of, units_from}
+use Rattle.mig_base.specs.Boards.{at_of, net_of, units_from}
 use Rattle.mig_base.specs.Given.{IsGiven}
 use Rattle.board.specs.Joined.{Joined, equations_of}
-use Rattle.structure.specs.Live.{DrivesWire}
 use Rattle.new_board.specs.NewChip.{NewChip}
 use Rattle.new_board.proofs.KeptNumbers.{old_kept}
 use Rattle.new_board.proofs.NewWiring.{kept_of}
@@ -23,7 +22,6 @@ use Rattle.new_board.proofs.WellMade.{IsFitChip}
 use Rattle.plans.specs.Placings.{old}
 use Rattle.plans.specs.Forms.{is_absorbed_read}
 use Rattle.plans.specs.Fitting.{new_board}
-use Rattle.fitting_levels.specs.Fitting.{IsAbsorbed}
 use Rattle.fitting_levels.specs.Wired.{IsWired}
 use Rattle.new_circuits.specs.NewNumbers.{is_seen, new_units, new_wiring, numbers_of, old_net, stays}
 use Rattle.planned_boards.specs.Planned.{ArePlanned}
@@ -31,8 +29,8 @@ use Rattle.wired_boards.proofs.ApartUnits.{given-wired}
 use Rattle.planned_nets.specs.PlacedOnce.{ArePlacedOnce}
 use Rattle.planned_nets.proofs.Absorbed.{absorbed-inner, absorbed-net}
 use Rattle.planned_nets.proofs.NewDrivers.{net-stands, new, old-drives, old-unit, on-chip, there, unit-number}
-use Rattle.planned_nets.proofs.NewNets.{IsKeptNet, IsNewNet, IsNoNet, IsPrivateNet, new-net}
-use Rattle.planned_nets.proofs.Wires.{IsDriver, driver-wire, kind-wire, wire-driver, wire-kind}
+use Rattle.planned_nets.proofs.NewNets.{IsNewNet, new-net}
+use Rattle.planned_nets.proofs.Wires.{driver-wire, kind-wire, wire-driver, wire-kind}
 
 -- an old net that isn't seen is absorbed
 pub unseen : (b : Joined) (absorbed : List ℕ) (chips : List NewChip) (m n : ℕ) → is_seen b absorbed chips m ≡ false → old_net b chips m ≡ Some n → is_absorbed_read (equations_of b) absorbed (OfNet n) ≡ true

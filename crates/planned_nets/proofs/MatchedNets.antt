@@ -1,5 +1,5 @@
 -- A new net that stands for an old one has its kind and pull.
-use Rattle.std.proofs.Common.{ℕ, suc, ◌≡◌, ◌⊎◌, ◌+◌, ◌-◌, ◌<◌, ◌≤◌, Bool, true, false, ◌||◌, List, [], ◌∷◌, ◌++◌, map, length, Option, Some, None, refl, sym, ap, ◌∙◌, subst, inl, inr, le-ltb, arith}
+use Rattle.std.proofs.Common.{ℕ, ◌≡◌, ◌+◌, ◌-◌, ◌<◌, ◌≤◌, Bool, true, ◌||◌, List, ◌++◌, map, length, Option, Some, None, refl, sym, ap, ◌∙◌, inl, inr, le-ltb, arith}
 use Rattle.std.specs.Prelude.{option_and_then}
 use Rattle.std.specs.List.{slice_get}
 use Rattle.std.specs.Option.{option_map}
@@ -12,21 +12,21 @@ use Rattle.mig_base.specs.declared.circuit.NetKind.{NetKind}
 use Rattle.mig_base.specs.declared.circuit.NetKind.TheVariants.{Inner}
 use Rattle.mig_base.specs.declared.circuit.Wire.{Wire}
 use Rattle.mig_base.specs.Accepted.{IsAccepted}
-use Rattle.mig_base.specs.Boards.{At, at_of, kinds_from, kinds_of, net_of, privates, units_from}
+use Rattle.mig_base.specs.Boards.{At, kinds_from, kinds_of, privates, units_from}
 use Rattle.mig_base.specs.Given.{IsGiven}
 use Rattle.mig_base.proofs.Amongs.{among-get}
 use Rattle.mig_base.proofs.ListLaws.{item-at}
 use Rattle.mig_base.proofs.PlaceLaws.{length-kinds_from}
 use Rattle.board.specs.Joined.{Joined, equations_of}
-use Rattle.new_board.specs.NewChip.{NewChip, can_stand, has_no_driver, private_from}
+use Rattle.new_board.specs.NewChip.{NewChip, has_no_driver, private_from}
 use Rattle.new_board.proofs.KeptNumbers.{old_kept}
 use Rattle.new_board.proofs.NewWiring.{kept_of}
 use Rattle.new_board.proofs.Wiring.{inner_kind, kinds-private}
 use Rattle.plans.specs.Placings.{old}
 use Rattle.new_circuits.specs.NewNumbers.{new_wiring, old_net}
 use Rattle.wired_boards.proofs.UnitPins.{unit-net}
-use Rattle.planned_nets.proofs.NewNets.{IsKeptNet, IsNewNet, IsNoNet, IsPrivateNet, new-net}
-use Rattle.planned_nets.proofs.PinReasons.{HasUnit, IsClock, StandsBy, stands-by}
+use Rattle.planned_nets.proofs.NewNets.{IsNewNet, new-net}
+use Rattle.planned_nets.proofs.PinReasons.{StandsBy, stands-by}
 use Rattle.planned_nets.proofs.PrivateNets.{IsPinOf, pin-of}
 use Rattle.planned_nets.proofs.SameNet.{unit-of-net}
 use Rattle.planned_nets.proofs.Wires.{wire-kind}

@@ -1,17 +1,14 @@
 -- A new unit that has no enable row never drives.
-use Rattle.std.proofs.Common.{ℕ, ◌≡◌, Bool, true, false, cond, List, Option, Some, None, is_some, refl, sym, ap, ◌∙◌, subst}
-use Rattle.std.specs.List.{slice_get}
+use Rattle.std.proofs.Common.{ℕ, ◌≡◌, Bool, true, false, cond, List, Option, Some, None, is_some, refl, sym, ap, ◌∙◌}
 use Rattle.mig_base.specs.declared.cells.Cell.{Cell}
-use Rattle.mig_base.specs.declared.cells.Enable.{Enable}
 use Rattle.mig_base.specs.declared.cells.Enable.TheVariants as enable
 use Rattle.mig_base.specs.declared.circuit.Gate.{Gate}
-use Rattle.mig_base.specs.declared.circuit.Gate.TheVariants.{Never, Product}
-use Rattle.mig_base.specs.Boards.{ChipUnit, can_drive, driver_of, enable_on, is_unit, low_pin, net_of}
+use Rattle.mig_base.specs.declared.circuit.Gate.TheVariants.{Never}
+use Rattle.mig_base.specs.Boards.{ChipUnit, can_drive, driver_of, enable_on, is_unit, low_pin}
 use Rattle.mig_base.specs.DeviceTables.{enable_pin, is_22}
 use Rattle.board.specs.Joined.{Joined, equations_of}
-use Rattle.new_board.specs.declared.types.PlacedUnit.{PlacedUnit}
 use Rattle.new_board.specs.NewChip.{NewChip, placed_register}
-use Rattle.new_board.specs.NewFiles.{cell_by, cell_of, new_comb, new_enable, new_reg}
+use Rattle.new_board.specs.NewFiles.{cell_by, cell_of, new_comb, new_enable}
 use Rattle.new_board.proofs.WellMade.{IsFitChip, on-unit}
 use Rattle.plans.specs.Placings.{old}
 use Rattle.new_circuits.specs.NewNumbers.{new_units, new_wiring, IsNewUnit}

@@ -1,18 +1,16 @@
 -- The new cell of a placed unit is a unit, or the placed unit is never enabled.
-use Rattle.std.proofs.Common.{ℕ, ◌≡◌, ◌⊎◌, ◌+◌, Bool, true, false, not, cond, ◌&&◌, ◌||◌, List, [], ◌∷◌, map, Option, Some, None, refl, sym, ap, ◌∙◌, subst, inl, inr, arith}
+use Rattle.std.proofs.Common.{ℕ, ◌≡◌, ◌+◌, Bool, true, false, not, cond, ◌&&◌, ◌||◌, List, [], ◌∷◌, Option, Some, None, refl, sym, ap, ◌∙◌, subst, arith}
 use Rattle.std.specs.List.{list_any, slice_get}
 use Rattle.std.specs.Option.{option_map}
 use Rattle.std.proofs.lemmas.Bool.{and_parts}
 use Rattle.std.proofs.lemmas.Option.{slice_get-map}
 use Rattle.mig_base.specs.declared.cells.Cell.{Cell}
 use Rattle.mig_base.specs.declared.cells.ChipCells.{ChipCells}
-use Rattle.mig_base.specs.declared.cells.Enable.{Enable}
 use Rattle.mig_base.specs.declared.cells.Enable.TheVariants as enable
 use Rattle.mig_base.specs.declared.circuit.Gate.{Gate}
 use Rattle.mig_base.specs.declared.circuit.Gate.TheVariants.{Never, Product}
-use Rattle.mig_base.specs.declared.circuit.Literal.{Literal}
 use Rattle.mig_base.specs.Among.{Among}
-use Rattle.mig_base.specs.Boards.{ChipUnit, in_cell, in_row, is_mute, is_unit}
+use Rattle.mig_base.specs.Boards.{in_cell, in_row, is_mute, is_unit}
 use Rattle.mig_base.specs.DeviceTables.{cell_pins, enable_pin, is_22}
 use Rattle.mig_base.specs.WellFormed.{is_never}
 use Rattle.mig_base.proofs.Amongs.{map-among}

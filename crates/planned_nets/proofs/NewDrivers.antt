@@ -1,11 +1,10 @@
 -- Each driver of a new net stands for a driver of the old one.
-use Rattle.std.proofs.Common.{ℕ, ◌≡◌, Bool, true, false, ◌&&◌, List, map, Option, Some, None, refl, sym, ap, ◌∙◌, subst, inl, eqb}
+use Rattle.std.proofs.Common.{ℕ, ◌≡◌, Bool, true, false, ◌&&◌, List, Option, Some, refl, sym, ap, ◌∙◌, eqb}
 use Rattle.std.specs.Prelude.{option_and_then}
 use Rattle.std.specs.List.{list_all, slice_get}
 use Rattle.std.specs.Option.{option_map}
 use Rattle.std.proofs.lemmas.Option.{slice_get-map}
 use Rattle.mig_base.specs.declared.kinds.Kind.{Kind}
-use Rattle.mig_base.specs.declared.circuit.Driver.{Driver}
 use Rattle.mig_base.specs.declared.circuit.Gate.{Gate}
 use Rattle.mig_base.specs.declared.circuit.Gate.TheVariants.{Never, Product}
 use Rattle.mig_base.specs.Among.{Among}
@@ -14,7 +13,7 @@ use Rattle.mig_base.specs.Cells.{is_among}
 use Rattle.mig_base.specs.DeviceTables.{cell_pins, clock_pin, enable_pin, is_v8, ordinary_pins}
 use Rattle.mig_base.proofs.Amongs.{among-get}
 use Rattle.mig_base.proofs.KindFacts.{every-kind}
-use Rattle.board.specs.Joined.{Joined, equations_of}
+use Rattle.board.specs.Joined.{Joined}
 use Rattle.read_nodes.proofs.Columns.{pin-among}
 use Rattle.new_board.specs.declared.types.PlacedUnit.{PlacedUnit}
 use Rattle.new_board.specs.NewChip.{OldBoard, NewChip, clock_net, enable_net, first_registered, or_option, unit_net, unit_net_of, unit_on, when}
@@ -46,10 +45,10 @@ module _ (b : Joined) (absorbed : List ℕ) (live : ℕ → Bool) (chips : List 
   pub new : IsNewUnit b chips u
   new = new-unit b chips v u at
 
-  there : Among new.chip chips
+  pub there : Among new.chip chips
   there = among-get chips u.chip new.chip new.found
 
-  on-chip : Among new.unit new.chip.units
+  pub on-chip : Among new.unit new.chip.units
   on-chip = (on-unit new.chip.units u.cell.pin new.unit new.placed).0
 
   -- the old unit, and its number

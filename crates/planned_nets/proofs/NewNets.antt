@@ -1,13 +1,11 @@
 -- The nets of the new board: constants and kept nets, and the private nets of pins.
-use Rattle.std.proofs.Common.{ℕ, ◌≡◌, ◌⊎◌, ◌+◌, ◌-◌, ◌<◌, ◌≤◌, List, map, length, suc, Option, Some, None, refl, sym, ap, ◌∙◌, inl, inr, arith}
+use Rattle.std.proofs.Common.{ℕ, ◌≡◌, ◌⊎◌, ◌+◌, ◌-◌, ◌<◌, ◌≤◌, List, map, length, suc, Option, Some, None, refl, ap, ◌∙◌, inl, inr, arith}
 use Rattle.std.specs.List.{slice_get}
 use Rattle.std.specs.Option.{option_map}
 use Rattle.std.proofs.lemmas.Bool.{cases_lt}
 use Rattle.std.proofs.lemmas.List.{length-map}
 use Rattle.std.proofs.lemmas.Option.{slice_get-map}
-use Rattle.mig_base.specs.declared.nets.Pull.{Pull}
 use Rattle.mig_base.specs.declared.nets.Pull.TheVariants.{Free}
-use Rattle.mig_base.specs.declared.circuit.NetKind.{NetKind}
 use Rattle.mig_base.specs.declared.circuit.NetKind.TheVariants.{Inner}
 use Rattle.mig_base.specs.Boards.{At, kinds_of, privates}
 use Rattle.board.specs.Joined.{Joined}

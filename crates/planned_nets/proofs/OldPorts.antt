@@ -1,5 +1,5 @@
 -- The ports of the new board stand for those of the old one, which are not absorbed.
-use Rattle.std.proofs.Common.{ℕ, ◌≡◌, ◌+◌, ◌<◌, Bool, true, false, not, List, [], ◌∷◌, map, length, Option, Some, None, refl, sym, ap, ◌∙◌, subst, inl, inr, arith}
+use Rattle.std.proofs.Common.{ℕ, ◌≡◌, ◌<◌, Bool, true, false, not, List, [], ◌∷◌, map, Option, Some, refl, sym, ap, ◌∙◌, subst, inl, inr}
 use Rattle.std.specs.Prelude.{option_and_then}
 use Rattle.std.specs.List.{slice_get}
 use Rattle.mig_base.specs.declared.circuit.Read.TheVariants.{OfNet}
@@ -18,7 +18,7 @@ use Rattle.plans.specs.Placings.{old}
 use Rattle.plans.specs.Forms.{is_absorbed_read}
 use Rattle.plans.specs.Fitting.{new_board}
 use Rattle.fitting_levels.specs.Fitting.{IsAbsorbed}
-use Rattle.new_circuits.specs.NewNumbers.{is_seen, new_wiring, numbers_of, old_net, old_nets, or_zero, stays}
+use Rattle.new_circuits.specs.NewNumbers.{is_seen, new_wiring, numbers_of, old_net, or_zero, stays}
 use Rattle.new_circuits.proofs.PinNets.{kept-stands}
 use Rattle.planned_nets.proofs.Absorbed.{absorbed-net}
 

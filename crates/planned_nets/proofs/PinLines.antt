@@ -1,5 +1,5 @@
 -- The line of a new pin on an old net: it has one where that net has a name, else its net is private.
-use Rattle.std.proofs.Common.{ℕ, ◌≡◌, ◌+◌, ◌<◌, ◌≤◌, Bool, cond, List, map, Option, Some, None, refl, sym, ap, ◌∙◌, subst, le-ltb, arith}
+use Rattle.std.proofs.Common.{ℕ, ◌≡◌, ◌+◌, ◌<◌, ◌≤◌, Bool, cond, List, Some, None, sym, ap, ◌∙◌, subst, le-ltb, arith}
 use Rattle.std.specs.List.{slice_get}
 use Rattle.std.specs.Option.{option_map}
 use Rattle.std.proofs.lemmas.Option.{same_Some, slice_get-map}
@@ -7,7 +7,6 @@ use Rattle.mig_base.specs.Among.{Among}
 use Rattle.mig_base.specs.Boards.{line_at, net_of, place_of, privates}
 use Rattle.mig_base.specs.DeviceTables.{ordinary_pins}
 use Rattle.board.specs.Joined.{Joined}
-use Rattle.new_board.specs.declared.types.PinNet.{PinNet}
 use Rattle.new_board.specs.NewChip.{NewChip, private_from}
 use Rattle.new_board.specs.InputPins.{pin_net}
 use Rattle.new_board.specs.NewFiles.{fitted, new_number, wire_at}
@@ -16,7 +15,7 @@ use Rattle.new_board.proofs.NewWiring.{kept_of}
 use Rattle.new_board.proofs.Wiring.{net-line, net-private, new-line, wire-none, wire-some}
 use Rattle.plans.specs.Placings.{old}
 use Rattle.plans.specs.Fitting.{fitted_chips}
-use Rattle.new_circuits.specs.NewNumbers.{new_wiring, old_nets}
+use Rattle.new_circuits.specs.NewNumbers.{new_wiring}
 use Rattle.new_circuits.proofs.PinNets.{kept-stands, pin-kept}
 
 module _ (b : Joined) (chips : List NewChip) (j : ℕ) (chip : NewChip) (pin n : ℕ) (found : slice_get chips j ≡ Some chip) (ordinary : Among pin (ordinary_pins chip.kind)) (net : pin_net (old b) chip pin ≡ Some n) where

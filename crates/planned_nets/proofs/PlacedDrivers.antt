@@ -1,9 +1,8 @@
 -- A live driver of an old net that isn't absorbed floats, or its new unit drives the new net.
-use Rattle.std.proofs.Common.{ℕ, ◌≡◌, ◌⊎◌, Bool, true, false, not, List, [], ◌∷◌, Option, Some, None, refl, sym, ap, ◌∙◌, subst, inl, inr}
+use Rattle.std.proofs.Common.{ℕ, ◌≡◌, ◌⊎◌, Bool, true, false, not, List, Some, refl, sym, ap, ◌∙◌, subst, inl, inr}
 use Rattle.std.specs.List.{slice_get}
 use Rattle.std.proofs.lemmas.Option.{same_Some}
 use Rattle.mig_base.specs.declared.circuit.Driver.{Driver}
-use Rattle.mig_base.specs.declared.circuit.Read.TheVariants.{OfNet}
 use Rattle.mig_base.specs.declared.circuit.Wire.{Wire}
 use Rattle.mig_base.specs.declared.circuit.Circuit.{Circuit}
 use Rattle.mig_base.specs.Accepted.{IsAccepted}
@@ -21,7 +20,6 @@ use Rattle.new_board.specs.NewFiles.{new_cell, new_cells}
 use Rattle.new_board.proofs.NewWiring.{cell-pin}
 use Rattle.new_board.proofs.WellMade.{IsFitChip, IsFitUnit}
 use Rattle.plans.specs.Placings.{old}
-use Rattle.plans.specs.Forms.{is_absorbed_read}
 use Rattle.plans.specs.Fitting.{new_board}
 use Rattle.carried_boards.specs.Carries.{Floats}
 use Rattle.placed_boards.specs.Places.{IsPlacedUnit}

@@ -1,5 +1,5 @@
 -- A new net that stands for an old one is placed: kind, pull and drivers.
-use Rattle.std.proofs.Common.{ℕ, ◌≡◌, Bool, true, false, List, Option, Some, None, refl, sym, ap, ◌∙◌, subst}
+use Rattle.std.proofs.Common.{ℕ, ◌≡◌, Bool, true, List, Option, Some, None, refl, sym, ap, ◌∙◌}
 use Rattle.std.specs.List.{slice_get}
 use Rattle.std.proofs.lemmas.Option.{same_Some}
 use Rattle.mig_base.specs.declared.circuit.Driver.{Driver}
@@ -21,7 +21,7 @@ use Rattle.planned_nets.specs.PlacedOnce.{ArePlacedOnce}
 use Rattle.planned_nets.proofs.MatchedNets.{AreMatched, matched}
 use Rattle.planned_nets.proofs.NewDrivers.{net-stands, old-drives, old-unit}
 use Rattle.planned_nets.proofs.PlacedDrivers.{every}
-use Rattle.planned_nets.proofs.Wires.{IsDriver, driver-wire, kind-wire, wire-driver}
+use Rattle.planned_nets.proofs.Wires.{driver-wire, kind-wire, wire-driver}
 
 -- what is seen stands for a net
 seen-net : (b : Joined) (absorbed : List ℕ) (chips : List NewChip) (m : ℕ) → is_seen b absorbed chips m ≡ true → (n : ℕ) × (old_net b chips m ≡ Some n)

@@ -1,21 +1,18 @@
 -- A private net of the new board that stands for an old one: the pin that it belongs to, and the old net.
-use Rattle.std.proofs.Common.{ℕ, ◌≡◌, ◌⊎◌, ◌+◌, ◌<◌, ◌≤◌, Bool, true, false, List, map, Option, Some, None, is_none, refl, sym, ap, ◌∙◌, subst, inl, inr, arith}
+use Rattle.std.proofs.Common.{ℕ, ◌≡◌, ◌⊎◌, ◌+◌, ◌<◌, ◌≤◌, true, false, List, Option, Some, is_none, sym, ap, ◌∙◌, subst, inl, inr, arith}
 use Rattle.std.specs.Prelude.{option_and_then}
 use Rattle.std.specs.List.{slice_get}
 use Rattle.std.specs.Option.{option_map}
 use Rattle.std.proofs.lemmas.Bool.{cases_lt}
 use Rattle.std.proofs.lemmas.Option.{same_Some, slice_get-map}
-use Rattle.mig_base.specs.declared.kinds.Kind.{Kind}
 use Rattle.mig_base.specs.declared.nets.ChipLine.{ChipLine}
 use Rattle.mig_base.specs.Among.{Among}
-use Rattle.mig_base.specs.Boards.{At, line_at, pins_from, privates}
+use Rattle.mig_base.specs.Boards.{At, line_at}
 use Rattle.mig_base.specs.DeviceTables.{ordinary_pins}
 use Rattle.board.specs.Joined.{Joined}
-use Rattle.new_board.specs.declared.types.FittedChip.{FittedChip}
 use Rattle.new_board.specs.NewChip.{NewChip, private_from}
 use Rattle.new_board.specs.InputPins.{pin_net}
-use Rattle.new_board.specs.NewFiles.{fitted, new_chip_line, new_number}
-use Rattle.new_board.proofs.NewWiring.{kept_of}
+use Rattle.new_board.specs.NewFiles.{fitted, new_chip_line}
 use Rattle.plans.specs.Placings.{old}
 use Rattle.plans.specs.Fitting.{fitted_chips}
 use Rattle.new_circuits.specs.NewNumbers.{new_wiring, old_net}

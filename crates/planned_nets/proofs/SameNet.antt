@@ -1,18 +1,18 @@
 -- A new net that stands for the net of a placed unit that drives is the net of the unit's new pin.
-use Rattle.std.proofs.Common.{ℕ, ◌≡◌, ◌⊎◌, ◌+◌, ◌<◌, ◌≤◌, Bool, true, false, ◌||◌, List, [], ◌∷◌, length, Option, Some, None, refl, sym, ap, ◌∙◌, subst, inl, inr, ltb, le-ltb, eqb, arith}
+use Rattle.std.proofs.Common.{ℕ, ◌≡◌, ◌+◌, ◌<◌, ◌≤◌, Bool, true, ◌||◌, List, [], ◌∷◌, length, Option, Some, None, refl, sym, ap, ◌∙◌, subst, inl, inr, le-ltb, eqb, eqb-true, arith}
 use Rattle.std.specs.Prelude.{option_and_then}
 use Rattle.std.specs.List.{slice_get}
 use Rattle.std.proofs.lemmas.Option.{same_Some}
 use Rattle.mig_base.specs.declared.circuit.Wire.{Wire}
 use Rattle.mig_base.specs.Accepted.{IsAccepted, is_fixed}
 use Rattle.mig_base.specs.Among.{Among}
-use Rattle.mig_base.specs.Boards.{At, ChipUnit, at_of, net_of, pins_from, place_of, privates, units_from}
+use Rattle.mig_base.specs.Boards.{At, ChipUnit, at_of, net_of, place_of, privates, units_from}
 use Rattle.mig_base.specs.DeviceTables.{ordinary_pins}
 use Rattle.mig_base.specs.Given.{IsGiven}
 use Rattle.mig_base.proofs.Amongs.{among-get}
 use Rattle.board.specs.Joined.{Joined, equations_of}
 use Rattle.new_board.specs.declared.types.PlacedUnit.{PlacedUnit}
-use Rattle.new_board.specs.NewChip.{NewChip, can_stand, has_no_driver, private_from, unit_net_of, unit_on}
+use Rattle.new_board.specs.NewChip.{NewChip, can_stand, has_no_driver, private_from, unit_net_of}
 use Rattle.new_board.specs.InputPins.{pin_net}
 use Rattle.new_board.proofs.KeptNumbers.{old_kept}
 use Rattle.new_board.proofs.NewWiring.{kept_of}
@@ -23,9 +23,9 @@ use Rattle.new_circuits.specs.NewNumbers.{new_wiring, old_net}
 use Rattle.wired_boards.proofs.ApartUnits.{given-apart}
 use Rattle.wired_boards.proofs.UnitPins.{lines-fit, unit-pin}
 use Rattle.planned_nets.specs.PlacedOnce.{ArePlacedOnce}
-use Rattle.planned_nets.proofs.NewNets.{IsKeptNet, IsNewNet, IsNoNet, IsPrivateNet, new-net}
+use Rattle.planned_nets.proofs.NewNets.{IsNewNet, new-net}
 use Rattle.planned_nets.proofs.PinLines.{named-same, unnamed-net}
-use Rattle.planned_nets.proofs.PinReasons.{HasUnit, IsClock, StandsBy, stands-by}
+use Rattle.planned_nets.proofs.PinReasons.{IsClock, StandsBy, stands-by}
 use Rattle.planned_nets.proofs.PinsApart.{private-place}
 use Rattle.planned_nets.proofs.PrivateNets.{IsPinOf, pin-of}
 use Rattle.planned_nets.proofs.Wires.{IsDriver}
@@ -35,15 +35,16 @@ pub unit-of-net : (us : List ChipUnit) (b : Joined) (o : Option ChipUnit) (n : �
 unit-of-net us b None n e = cc
 unit-of-net us b (Some x) n e = (x, refl, same_Some (net_of b.net (at_of x)) n e)
 
+-- a list with an item isn't empty
+driven : (u : ℕ) (ds : List ℕ) → Among u ds → eqb (length ds) 0 ≡ true → ⊥
+driven u [] a e = absurd a
+driven u (y ∷ ys) a e = let none : length (y ∷ ys) ≡ 0 = eqb-true (length (y ∷ ys)) 0 e in omega (arith, none)
+
 module _ (b : Joined) (absorbed : List ℕ) (chips : List NewChip) (given : IsGiven b.net b.chips) (accepted : IsAccepted (equations_of b)) (once : ArePlacedOnce b absorbed chips)
     (j : ℕ) (chip : NewChip) (x : PlacedUnit) (found : slice_get chips j ≡ Some chip) (placed : Among x chip.units) (ordinary : Among x.pin (ordinary_pins chip.kind))
     (n : ℕ) (net : pin_net (old b) chip x.pin ≡ Some n) (w : Wire) (on : slice_get (equations_of b).nets n ≡ Some w) (drives : Among x.unit w.drivers)
     (d : IsDriver b.net (units_from 0 b.chips) n x.unit) where
   -- a net with a driver is none that an input pin can stand on, unless it has a name
-  driven : (ds : List ℕ) → Among x.unit ds → eqb (length ds) 0 ≡ true → ⊥
-  driven [] a e = absurd a
-  driven (y ∷ ys) a e = cc
-
   no-clock : IsClock (old b) n → ⊥
   no-clock c =
       let k = accepted.clocks c.number c.register c.found in
@@ -54,7 +55,7 @@ module _ (b : Joined) (absorbed : List ℕ) (chips : List NewChip) (given : IsGi
   no-free : private_from b.net ≤ n → can_stand (old b) n ≡ true → ⊥
   no-free high can =
       let free : has_no_driver (slice_get (equations_of b).nets n) ≡ true = ap (λ (q : Bool). q || has_no_driver (slice_get (equations_of b).nets n)) (sym (le-ltb n (private_from b.net) high)) ∙ can in
-      driven w.drivers drives (ap has_no_driver (sym on) ∙ free)
+      driven x.unit w.drivers drives (ap has_no_driver (sym on) ∙ free)
 
   -- the pin of the private net has that unit
   unit-same : private_from b.net ≤ n → (y : PlacedUnit) (o : ChipUnit) → slice_get (units_from 0 b.chips) y.unit ≡ Some o → net_of b.net (at_of o) ≡ n → y.unit ≡ x.unit

@@ -1,5 +1,5 @@
 -- The wires of a board and their drivers, by the kinds of its nets and the pins of its units.
-use Rattle.std.proofs.Common.{ℕ, ◌≡◌, ◌+◌, Bool, true, List, map, Option, Some, None, refl, sym, ap, ◌∙◌, subst, eqb, eqb-true, eq-eqb, arith}
+use Rattle.std.proofs.Common.{ℕ, ◌≡◌, ◌+◌, true, List, Option, Some, None, refl, sym, ap, ◌∙◌, subst, eqb, eqb-true, eq-eqb, arith}
 use Rattle.std.specs.List.{slice_get}
 use Rattle.std.specs.Option.{option_map}
 use Rattle.std.proofs.lemmas.Bool.{and_parts, and_from}
