@@ -1,6 +1,5 @@
 -- A unit that a line absorbs isn't placed by one.
-use Rattle.std.proofs.Common.{ℕ, ◌≡◌, ◌⊎◌, Bool, true, false, List, [], ◌∷◌, ◌++◌, Option, Some, None, refl, sym, ap, ◌∙◌, inl, inr}
-use Rattle.std.specs.List.{list_any}
+use Rattle.std.proofs.Common.{◌≡◌, Bool, true, false, List, [], ◌∷◌, ◌++◌, Option, Some, None, refl, sym, ap, ◌∙◌, inl, inr}
 use Rattle.mig_base.specs.Among.{Among}
 use Rattle.mig_base.specs.declared.nets.PinName.{PinName}
 use Rattle.mig_base.specs.declared.plans.Plan.{Plan}

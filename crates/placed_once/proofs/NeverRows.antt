@@ -1,5 +1,5 @@
 -- A unit that is never enabled has no enable row.
-use Rattle.std.proofs.Common.{ℕ, ◌≡◌, Bool, true, false, List, [], ◌∷◌, Option, Some, None, refl, sym, ap, ◌∙◌, subst}
+use Rattle.std.proofs.Common.{ℕ, ◌≡◌, Bool, false, List, [], Option, Some, None, refl, ap, ◌∙◌, subst}
 use Rattle.std.specs.List.{slice_get}
 use Rattle.std.proofs.lemmas.Option.{same_Some}
 use Rattle.mig_base.specs.declared.circuit.Driver.{Driver}
@@ -13,8 +13,8 @@ use Rattle.mig_base.specs.declared.plans.Part.TheVariants.{Enable}
 use Rattle.mig_base.specs.Structure.{variable_gate}
 use Rattle.board.specs.Joined.{Joined, equations_of}
 use Rattle.new_board.specs.NewChip.{gate_products}
-use Rattle.new_board.specs.OneForOne.{old_driving, old_giving, old_reg, old_rows}
-use Rattle.plans.specs.Forms.{IsControlBy, IsGate, Products, old_products, read_absorbed, reads_absorbed}
+use Rattle.new_board.specs.OneForOne.{old_driving, old_giving, old_reg}
+use Rattle.plans.specs.Forms.{IsControlBy, IsGate, old_products, read_absorbed, reads_absorbed}
 
 module _ (c : Circuit) (u : ℕ) (d : Driver) (never : d.enable ≡ Never) where
   given-never : (g : Gives) → (old_giving c 0 u d g).enable ≡ Never

@@ -1,12 +1,11 @@
 -- Each unit is placed once.
-use Rattle.std.proofs.Common.{ℕ, zero, suc, ◌≡◌, ◌⊎◌, ◌+◌, Bool, true, false, not, ◌&&◌, List, [], ◌∷◌, map, Option, Some, None, refl, sym, ap, ◌∙◌, subst, inl, inr, arith}
+use Rattle.std.proofs.Common.{ℕ, zero, suc, ◌≡◌, ◌+◌, true, false, not, List, [], ◌∷◌, map, Option, Some, None, refl, sym, ap, ◌∙◌, subst, inl, inr, arith}
 use Rattle.std.specs.List.{list_any, slice_get}
 use Rattle.std.specs.Option.{option_map}
 use Rattle.std.specs.Str.{bytes_eq}
 use Rattle.std.proofs.lemmas.Bool.{and_parts, not-true}
 use Rattle.std.proofs.lemmas.Option.{same_Some, slice_get-map}
 use Rattle.mig_base.specs.Among.{Among}
-use Rattle.mig_base.specs.declared.circuit.Driver.{Driver}
 use Rattle.mig_base.specs.declared.nets.PinName.{PinName}
 use Rattle.mig_base.specs.declared.plans.Part.TheVariants.{Enable}
 use Rattle.mig_base.specs.declared.plans.Plan.{Plan}
@@ -27,7 +26,7 @@ use Rattle.plans.specs.Breaches.{HasNoBreach}
 use Rattle.plans.specs.Fitting.{AreNewChips}
 use Rattle.planned_nets.specs.PlacedOnce.{ArePlacedOnce}
 use Rattle.fitted_cells.proofs.PlanRules.{bytes-same, chips-distinct}
-use Rattle.fitted_cells.proofs.PlacedPins.{IsTarget, is-target}
+use Rattle.fitted_cells.proofs.PlacedPins.{is-target}
 use Rattle.fitted_cells.proofs.UnitsOnPins.{each-back}
 use Rattle.placed_once.proofs.LinesApart.{not-both}
 use Rattle.placed_once.proofs.NeverRows.{gate-never}

@@ -48,7 +48,7 @@ module _ (b : Joined) (chips : List NewChip) (given : IsGiven b.net b.chips) (ac
   -- an old net that a new pin stands on is there
   old-there : (q : At) (n : ℕ) (p : IsPinOf b chips q n) → StandsBy (old b) p.chip q.1 n → (w : Wire) × (slice_get (equations_of b).nets n ≡ Some w)
   old-there q n p (inl h) =
-      let o = unit-of-net (units_from 0 b.chips) b (slice_get (units_from 0 b.chips) h.unit.unit) n h.net in
+      let o = unit-of-net b (slice_get (units_from 0 b.chips) h.unit.unit) n h.net in
       let w = unit-net b.net b.chips given o.0 (among-get (units_from 0 b.chips) h.unit.unit o.0 o.1) in
       (w.0, ap (slice_get (equations_of b).nets) (sym o.2) ∙ w.1)
   old-there q n p (inr (inl c)) = let w = accepted.clocks c.number c.register c.found in (w.0, ap (slice_get (equations_of b).nets) (sym c.clock) ∙ w.1)

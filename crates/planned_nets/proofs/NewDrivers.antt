@@ -1,36 +1,29 @@
 -- Each driver of a new net stands for a driver of the old one.
 use Rattle.std.proofs.Common.{ℕ, ◌≡◌, Bool, true, false, ◌&&◌, List, Option, Some, refl, sym, ap, ◌∙◌, eqb}
 use Rattle.std.specs.Prelude.{option_and_then}
-use Rattle.std.specs.List.{list_all, slice_get}
+use Rattle.std.specs.List.{slice_get}
 use Rattle.std.specs.Option.{option_map}
 use Rattle.std.proofs.lemmas.Option.{slice_get-map}
-use Rattle.mig_base.specs.declared.kinds.Kind.{Kind}
 use Rattle.mig_base.specs.declared.circuit.Gate.{Gate}
 use Rattle.mig_base.specs.declared.circuit.Gate.TheVariants.{Never, Product}
 use Rattle.mig_base.specs.Among.{Among}
 use Rattle.mig_base.specs.Boards.{ChipUnit, at_of, can_drive, driver_of, net_of, units_from}
-use Rattle.mig_base.specs.Cells.{is_among}
-use Rattle.mig_base.specs.DeviceTables.{cell_pins, clock_pin, enable_pin, is_v8, ordinary_pins}
+use Rattle.mig_base.specs.DeviceTables.{clock_pin, enable_pin, is_v8}
 use Rattle.mig_base.proofs.Amongs.{among-get}
-use Rattle.mig_base.proofs.KindFacts.{every-kind}
 use Rattle.board.specs.Joined.{Joined}
-use Rattle.read_nodes.proofs.Columns.{pin-among}
 use Rattle.new_board.specs.declared.types.PlacedUnit.{PlacedUnit}
 use Rattle.new_board.specs.NewChip.{OldBoard, NewChip, clock_net, enable_net, first_registered, or_option, unit_net, unit_net_of, unit_on, when}
 use Rattle.new_board.specs.InputPins.{input_at, input_pins, pin_net, wire_for}
-use Rattle.new_board.proofs.Items.{all-pass}
 use Rattle.new_board.proofs.WellMade.{IsFitChip, on-unit}
 use Rattle.plans.specs.Placings.{old}
 use Rattle.new_circuits.specs.NewNumbers.{new_units, new_wiring, numbers_of, old_net, old_unit, or_zero, unit_of, IsNewUnit}
 use Rattle.new_circuits.proofs.NewUnits.{new-unit}
 use Rattle.new_circuits.proofs.PinNets.{pin-kept}
 use Rattle.planned_boards.specs.Planned.{ArePlanned}
+use Rattle.wired_boards.proofs.UnitPins.{cells-ordinary}
 use Rattle.planned_nets.specs.PlacedOnce.{ArePlacedOnce}
 use Rattle.planned_nets.proofs.NeverDrives.{never-drives}
 use Rattle.planned_nets.proofs.Wires.{IsDriver, unit-driver, unit-there}
-
-pub cells-ordinary : (k : Kind) (pin : ℕ) → Among pin (cell_pins k) → Among pin (ordinary_pins k)
-cells-ordinary k pin a = pin-among (ordinary_pins k) pin (all-pass (is_among (ordinary_pins k)) pin (cell_pins k) (every-kind (λ j. list_all (is_among (ordinary_pins j)) (cell_pins j)) refl k) a)
 
 -- the pin of a unit stands on the unit's net
 pub unit-stands : (b : OldBoard) (chip : NewChip) (pin : ℕ) (x : PlacedUnit) (n : ℕ) → unit_on chip.units pin ≡ Some x → unit_net b x.unit ≡ Some n → pin_net b chip pin ≡ Some n

@@ -26,11 +26,12 @@ use Rattle.placed_boards.specs.Places.{IsPlacedUnit}
 use Rattle.new_circuits.specs.NewNumbers.{is_seen, new_units, new_wiring, numbers_of, old_net, stays, IsNewUnit}
 use Rattle.planned_boards.specs.Planned.{ArePlanned, IsPlaced}
 use Rattle.wired_boards.proofs.ApartUnits.{given-wired}
+use Rattle.wired_boards.proofs.UnitPins.{cells-ordinary}
 use Rattle.planned_nets.specs.PlacedOnce.{ArePlacedOnce}
 use Rattle.planned_nets.proofs.Absorbed.{net-absorbed, own-net}
 use Rattle.planned_nets.proofs.Floating.{idle-floats, never-floats}
 use Rattle.planned_nets.proofs.NewCells.{no-unit, unit-at}
-use Rattle.planned_nets.proofs.NewDrivers.{cells-ordinary, new, unit-number, unit-stands}
+use Rattle.planned_nets.proofs.NewDrivers.{new, unit-number, unit-stands}
 use Rattle.planned_nets.proofs.SameNet.{same-net}
 use Rattle.planned_nets.proofs.Wires.{IsDriver, driver-wire, unit-driver, wire-driver}
 

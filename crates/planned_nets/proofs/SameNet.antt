@@ -31,9 +31,9 @@ use Rattle.planned_nets.proofs.PrivateNets.{IsPinOf, pin-of}
 use Rattle.planned_nets.proofs.Wires.{IsDriver}
 
 -- the unit whose pin stands on a net
-pub unit-of-net : (us : List ChipUnit) (b : Joined) (o : Option ChipUnit) (n : ℕ) → unit_net_of (old b) o ≡ Some n → (x : ChipUnit) × (o ≡ Some x) × (net_of b.net (at_of x) ≡ n)
-unit-of-net us b None n e = cc
-unit-of-net us b (Some x) n e = (x, refl, same_Some (net_of b.net (at_of x)) n e)
+pub unit-of-net : (b : Joined) (o : Option ChipUnit) (n : ℕ) → unit_net_of (old b) o ≡ Some n → (x : ChipUnit) × (o ≡ Some x) × (net_of b.net (at_of x) ≡ n)
+unit-of-net b None n e = cc
+unit-of-net b (Some x) n e = (x, refl, same_Some (net_of b.net (at_of x)) n e)
 
 -- a list with an item isn't empty
 driven : (u : ℕ) (ds : List ℕ) → Among u ds → eqb (length ds) 0 ≡ true → ⊥
@@ -70,7 +70,7 @@ module _ (b : Joined) (absorbed : List ℕ) (chips : List NewChip) (given : IsGi
   pin-same q p (inr (inl clock)) = absurd (no-clock clock)
   pin-same q p (inr (inr can)) = absurd (no-free p.high can)
   pin-same q p (inl h) =
-      let o = unit-of-net (units_from 0 b.chips) b (slice_get (units_from 0 b.chips) h.unit.unit) n h.net in
+      let o = unit-of-net b (slice_get (units_from 0 b.chips) h.unit.unit) n h.net in
       let y = on-unit p.chip.units q.1 h.unit h.on in
       let same = once.once q.0 j p.chip chip h.unit x p.found found y.0 placed (unit-same p.high h.unit o.0 o.1 o.2) in
       let pin : q.1 ≡ x.pin = sym y.1 ∙ same.1 in

@@ -63,7 +63,8 @@ has-line (l ∷ ls) [] k c made e = absurd made
 has-line (l ∷ ls) (d ∷ ds) zero c made e = let same : d ≡ c = cc in record { line = l; found = refl; made = subst (IsMade l) same made.0 }
 has-line (l ∷ ls) (d ∷ ds) (suc k) c made e = let h = has-line ls ds k c made.1 e in record { line = h.line; found = h.found; made = h.made }
 
-cells-ordinary : (k : Kind) (pin : ℕ) → Among pin (cell_pins k) → Among pin (ordinary_pins k)
+-- a macrocell pin is an ordinary one
+pub cells-ordinary : (k : Kind) (pin : ℕ) → Among pin (cell_pins k) → Among pin (ordinary_pins k)
 cells-ordinary k pin a = pin-among (ordinary_pins k) pin (all-pass (is_among (ordinary_pins k)) pin (cell_pins k) (every-kind (λ j. list_all (is_among (ordinary_pins j)) (cell_pins j)) refl k) a)
 
 module _ (net : Net) (chips : List ChipCells) (given : IsGiven net chips) where
