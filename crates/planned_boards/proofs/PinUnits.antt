@@ -48,34 +48,34 @@ module _ (b : Joined) (absorbed : List ℕ) (chips : List NewChip) (given : IsGi
   abbrev new : Circuit
   new = equations_of (new_board b chips)
 
-  on-chip : Among n.unit n.chip.units
+  pub on-chip : Among n.unit n.chip.units
   on-chip = (on-unit n.chip.units u.cell.pin n.unit n.placed).0
 
-  abbrev rows : HasPartRows b absorbed n.unit
+  abbrev pub rows : HasPartRows b absorbed n.unit
   rows = planned.units n.unit on-chip
 
-  abbrev d : Driver
+  abbrev pub d : Driver
   d = rows.driver
 
   registered : is_registered_unit a n.unit ≡ true
   registered = ap (λ (o : Option ℕ). is_some o) is
 
-  first : (x : PlacedUnit) × (first_registered a n.chip ≡ Some x)
+  pub first : (x : PlacedUnit) × (first_registered a n.chip ≡ Some x)
   first = first-registered a n.chip n.unit on-chip registered
 
-  suits : SuitsV8 b first.0 n.unit
+  pub suits : SuitsV8 b first.0 n.unit
   suits = planned.suits n.unit first.0 on-chip on_v8 registered first.1
 
-  abbrev pin : ℕ
+  abbrev pub pin : ℕ
   pin = net_of (new_wiring b chips) (u.chip, enable_pin n.chip.kind)
 
   abbrev place : ℕ
   place = place_of (u.chip, u.cell.pin) (map at_of (registers_of (new_units b chips)))
 
-  abbrev made : Driver
+  abbrev pub made : Driver
   made = record { enable = low_pin pin; gives = Visible place; low = pin_low_of (slice_get a.units n.unit.unit) }
 
-  driver-is : driver_of (new_wiring b chips) (new_units b chips) u ≡ made
+  pub driver-is : driver_of (new_wiring b chips) (new_units b chips) u ≡ made
   driver-is =
       ap (λ (c : Cell). driver_of (new_wiring b chips) (new_units b chips) (record { chip = u.chip; cells = u.cells; cell = c })) (reg-cell b absorbed chips given v u at n fit rows k is)
       ∙ ap (λ (q : Bool). record { enable = enable_on (new_wiring b chips) (new_units b chips) u.chip (cond q (new_enable (old b) n.chip n.unit.enable) (enable.LowPin (enable_pin n.chip.kind))); gives = made.gives; low = made.low })
