@@ -38,6 +38,7 @@ use Rattle.planned_parts.proofs.Owners.{place-item}
 -- the unit of a new register, on its chip with the first registered unit, and the old register
 pub record IsNewRegister (b : Joined) (absorbed : List ℕ) (chips : List NewChip) (k : ℕ) : Type 0 where
   pub unit : ChipUnit
+  pub place : slice_get (registers_of (new_units b chips)) k ≡ Some unit
   pub number : ℕ
   pub stands : slice_get (new_units b chips) number ≡ Some unit
   pub new : IsNewUnit b chips unit
@@ -110,6 +111,7 @@ module _ (b : Joined) (absorbed : List ℕ) (chips : List NewChip) (kept : AreKe
           let register = item-at a.registers i there in
           record {
             unit = u;
+            place = found;
             number = v;
             stands = at;
             new = n;
