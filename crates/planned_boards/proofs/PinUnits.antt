@@ -1,5 +1,5 @@
 -- A registered unit on a V8 has the enable of its old unit, by the enable pin of its chip, and shows the register that stands for the old one.
-use Rattle.std.proofs.Common.{ℕ, ◌≡◌, ◌×◌, Bool, true, false, cond, List, [], ◌∷◌, ◌++◌, map, Option, Some, is_some, refl, sym, ap, ◌∙◌, subst}
+use Rattle.std.proofs.Common.{ℕ, ◌≡◌, Bool, true, false, cond, List, [], ◌∷◌, ◌++◌, map, Option, Some, is_some, refl, sym, ap, ◌∙◌, subst}
 use Rattle.std.specs.List.{AllByRecursion, filter, slice_get}
 use Rattle.mig_base.specs.declared.cells.Cell.{Cell}
 use Rattle.mig_base.specs.declared.cells.Enable.TheVariants as enable
