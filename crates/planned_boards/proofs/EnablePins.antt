@@ -26,7 +26,7 @@ v8-no-22 Gal16V8 e = refl
 v8-no-22 Gal20V8 e = refl
 v8-no-22 _ e = cc
 
-ordinary-there : (k : Kind) → is_v8 k ≡ true → is_among (ordinary_pins k) (enable_pin k) ≡ true
+pub ordinary-there : (k : Kind) → is_v8 k ≡ true → is_among (ordinary_pins k) (enable_pin k) ≡ true
 ordinary-there Gal16V8 e = refl
 ordinary-there Gal20V8 e = refl
 ordinary-there _ e = cc
@@ -55,7 +55,7 @@ no-unit b chip fit v8 = at (unit_on chip.units (enable_pin chip.kind)) refl
         cc
 
 -- its net
-pin-net : (b : OldBoard) (chip : NewChip) → IsFitChip b chip → is_v8 chip.kind ≡ true → (first : PlacedUnit) → first_registered b.circuit chip ≡ Some first →
+pub pin-net : (b : OldBoard) (chip : NewChip) → IsFitChip b chip → is_v8 chip.kind ≡ true → (first : PlacedUnit) → first_registered b.circuit chip ≡ Some first →
     (net : ℕ) → enable_net b first.enable ≡ Some net → pin_net b chip (enable_pin chip.kind) ≡ Some net
 pin-net b chip fit v8 first is net e =
     ap (λ (o : Option PlacedUnit). or_option (or_option (option_and_then (λ (x : PlacedUnit). unit_net b x.unit) o) (or_option (clock (eqb pin (clock_pin chip.kind))) (enable (is_v8 chip.kind && eqb pin pin) (first_registered b.circuit chip)))) input)

@@ -69,7 +69,7 @@ module _ (b : Joined) (absorbed : List ℕ) (chips : List NewChip) (given : IsGi
   abbrev pub pin : ℕ
   pin = net_of (new_wiring b chips) (u.chip, enable_pin n.chip.kind)
 
-  abbrev place : ℕ
+  abbrev pub place : ℕ
   place = place_of (u.chip, u.cell.pin) (map at_of (registers_of (new_units b chips)))
 
   abbrev pub made : Driver

@@ -50,7 +50,7 @@ module _ (b : Joined) (absorbed : List ℕ) (chips : List NewChip) (given : IsGi
   abbrev d : Driver
   d = rows.driver
 
-  abbrev place : ℕ
+  abbrev pub place : ℕ
   place = place_of (u.chip, u.cell.pin) (map at_of (registers_of (new_units b chips)))
 
   pub reg-cell : u.cell ≡ new_reg (old b) n.chip u.cell.pin n.unit

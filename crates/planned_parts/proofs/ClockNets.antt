@@ -1,25 +1,24 @@
 -- The clock net of a new chip stands for the clock net of its registers, and each register of the new board is placed.
-use Rattle.std.proofs.Common.{ℕ, ◌≡◌, Bool, true, false, not, ◌&&◌, List, [], ◌∷◌, Option, Some, None, is_some, refl, sym, ap, ◌∙◌, subst, eqb, eq-eqb}
+use Rattle.std.proofs.Common.{ℕ, ◌≡◌, Bool, true, false, not, ◌&&◌, List, Option, Some, None, is_some, refl, sym, ap, ◌∙◌, subst, eqb, eq-eqb}
 use Rattle.std.specs.Prelude.{option_and_then}
 use Rattle.std.specs.List.{slice_get}
 use Rattle.std.specs.Option.{option_map}
 use Rattle.std.proofs.lemmas.Option.{same_Some, slice_get-map}
 use Rattle.mig_base.specs.declared.kinds.Kind.{Kind}
 use Rattle.mig_base.specs.declared.circuit.Register.{Register}
-use Rattle.mig_base.specs.declared.circuit.Wire.{Wire}
 use Rattle.mig_base.specs.declared.circuit.NetKind.{NetKind}
 use Rattle.mig_base.specs.declared.circuit.Circuit.{Circuit}
 use Rattle.mig_base.specs.Accepted.{IsAccepted}
 use Rattle.mig_base.specs.Among.{Among}
 use Rattle.mig_base.specs.Boards.{ChipUnit, net_of, register_of, registers_of}
 use Rattle.mig_base.specs.Cells.{is_among}
-use Rattle.mig_base.specs.DeviceTables.{cell_pins, clock_pin, enable_pin, is_v8, ordinary_pins}
+use Rattle.mig_base.specs.DeviceTables.{cell_pins, enable_pin, is_v8, ordinary_pins}
 use Rattle.mig_base.proofs.Amongs.{among-any}
 use Rattle.mig_base.proofs.KindFacts.{every-kind}
 use Rattle.board.specs.Joined.{Joined, equations_of}
 use Rattle.read_nodes.proofs.Columns.{pin-among}
 use Rattle.new_board.specs.declared.types.PlacedUnit.{PlacedUnit}
-use Rattle.new_board.specs.NewChip.{NewChip, OldBoard, clock_net, enable_net, first_registered, or_option, placed_clock, placed_register, unit_net, unit_on, when}
+use Rattle.new_board.specs.NewChip.{NewChip, OldBoard, clock_net, enable_net, first_registered, or_option, placed_clock, unit_net, unit_on, when}
 use Rattle.new_board.specs.InputPins.{input_at, input_pins, pin_net, wire_for}
 use Rattle.new_board.proofs.WellMade.{IsFitChip, on-unit}
 use Rattle.plans.specs.Placings.{old}

@@ -1,5 +1,5 @@
 -- A register of the new board with its unit, its chip and the old register.
-use Rattle.std.proofs.Common.{ℕ, ◌≡◌, ◌<◌, Bool, true, false, List, [], ◌∷◌, ◌++◌, map, length, Option, Some, None, is_some, refl, sym, ap, ◌∙◌, subst}
+use Rattle.std.proofs.Common.{ℕ, ◌≡◌, ◌<◌, true, false, List, [], ◌∷◌, ◌++◌, length, Option, Some, None, is_some, refl, sym, ap, ◌∙◌, subst}
 use Rattle.std.specs.Prelude.{option_and_then}
 use Rattle.std.specs.List.{AllByRecursion, slice_get}
 use Rattle.std.specs.Option.{option_map}
@@ -24,7 +24,7 @@ use Rattle.level_laws.proofs.Unique.{all_right}
 use Rattle.board.specs.Joined.{Joined, equations_of}
 use Rattle.read_nodes.proofs.GivenNodes.{given-nodes}
 use Rattle.new_board.specs.declared.types.PlacedUnit.{PlacedUnit}
-use Rattle.new_board.specs.NewChip.{NewChip, first_registered, is_registered_unit, placed_register, register_driven, register_given, unit_on, unit_register}
+use Rattle.new_board.specs.NewChip.{NewChip, first_registered, placed_register, register_driven, register_given, unit_on, unit_register}
 use Rattle.new_board.specs.NewFiles.{cell_by, cell_of, new_comb}
 use Rattle.new_board.proofs.WellMade.{on-unit}
 use Rattle.plans.specs.Placings.{old}

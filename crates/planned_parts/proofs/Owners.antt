@@ -4,8 +4,6 @@ use Rattle.std.specs.List.{filter, slice_get}
 use Rattle.std.specs.Option.{option_map}
 use Rattle.std.proofs.lemmas.List.{length-map}
 use Rattle.std.proofs.lemmas.Option.{same_Some, slice_get-map}
-use Rattle.mig_base.specs.declared.circuit.Driver.{Driver}
-use Rattle.mig_base.specs.declared.circuit.Gives.{Gives}
 use Rattle.mig_base.specs.declared.circuit.Gives.TheVariants.{Sum, Visible}
 use Rattle.mig_base.specs.Among.{Among}
 use Rattle.mig_base.specs.Boards.{At, ChipUnit, at_of, driver_of, is_registered, literals_of, place_of, places_from, register_of, registers_of, units_from}

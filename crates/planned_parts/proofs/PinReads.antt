@@ -1,18 +1,15 @@
 -- The net of the enable pin of a V8 stands for an old one, where it is read.
-use Rattle.std.proofs.Common.{ℕ, suc, ◌≡◌, ◌⊎◌, ◌<◌, ◌≤◌, Bool, true, false, not, cond, ◌&&◌, List, [], ◌∷◌, Option, Some, None, refl, sym, ap, ◌∙◌, subst, inl, inr, eqb, eq-eqb, arith}
+use Rattle.std.proofs.Common.{ℕ, zero, suc, ◌≡◌, ◌⊎◌, ◌<◌, ◌≤◌, Bool, true, false, not, cond, ◌&&◌, List, [], ◌∷◌, Option, Some, None, refl, sym, ap, ◌∙◌, inl, inr, eqb, arith}
 use Rattle.std.specs.Prelude.{option_and_then}
-use Rattle.std.specs.List.{slice_get}
-use Rattle.std.proofs.lemmas.Bool.{and_parts, cases_lt}
+use Rattle.std.proofs.lemmas.Bool.{cases_lt}
 use Rattle.std.proofs.lemmas.Option.{same_Some}
 use Rattle.mig_base.specs.declared.circuit.Literal.{Literal}
 use Rattle.mig_base.specs.declared.circuit.Read.{Read}
 use Rattle.mig_base.specs.declared.circuit.Read.TheVariants.{OfNet, OfRegister}
 use Rattle.mig_base.specs.declared.circuit.Gate.{Gate}
 use Rattle.mig_base.specs.declared.circuit.Gate.TheVariants.{Never, Product}
-use Rattle.mig_base.specs.declared.circuit.Circuit.{Circuit}
 use Rattle.mig_base.specs.Among.{Among}
 use Rattle.mig_base.specs.Boards.{low_pin}
-use Rattle.mig_base.specs.First.{made_from}
 use Rattle.mig_base.specs.Structure.{alias_of}
 use Rattle.mig_base.specs.Values.{row_reads}
 use Rattle.mig_base.proofs.Amongs.{among-filter}
@@ -37,8 +34,8 @@ low-reads m w a = at (eqb m 0) refl (eqb m 1) refl a
         by (inl h) = small m h none one
           where
             small : (n : ℕ) → n < 2 → eqb n 0 ≡ false → eqb n 1 ≡ false → 2 ≤ m
-            small 0 h none one = cc
-            small 1 h none one = cc
+            small zero h none one = cc
+            small (suc zero) h none one = cc
             small (suc (suc n)) h none one = absurd (omega (arith, h))
 
     at : (p : Bool) → eqb m 0 ≡ p → (q : Bool) → eqb m 1 ≡ q → Among w (row_reads (cond p (Product []) (cond q Never (Product (record { source = OfNet m; high = false } ∷ []))))) → (w ≡ OfNet m) × (2 ≤ m)

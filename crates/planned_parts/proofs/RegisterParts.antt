@@ -1,11 +1,10 @@
 -- A register of the new board takes what its old one takes.
-use Rattle.std.proofs.Common.{ℕ, ◌≡◌, Bool, true, false, cond, List, [], ◌∷◌, ◌++◌, Option, Some, is_some, refl, sym, ap, ◌∙◌, subst, inl, inr}
+use Rattle.std.proofs.Common.{ℕ, ◌≡◌, Bool, true, false, cond, List, [], ◌++◌, Option, Some, is_some, refl, sym, ap, ◌∙◌, subst}
 use Rattle.std.specs.List.{AllByRecursion, slice_get}
 use Rattle.mig_base.specs.declared.circuit.Literal.{Literal}
 use Rattle.mig_base.specs.declared.circuit.Gate.{Gate}
 use Rattle.mig_base.specs.declared.circuit.Gate.TheVariants.{Never}
 use Rattle.mig_base.specs.declared.circuit.Gives.{Gives}
-use Rattle.mig_base.specs.declared.circuit.Gives.TheVariants.{Visible}
 use Rattle.mig_base.specs.declared.circuit.Register.{Register}
 use Rattle.mig_base.specs.declared.circuit.Circuit.{Circuit}
 use Rattle.mig_base.specs.Among.{Among}
@@ -24,7 +23,7 @@ use Rattle.plans.specs.Fitting.{new_board}
 use Rattle.plans.specs.UnitBreaches.{share_row}
 use Rattle.fitting_levels.specs.NodeValues.{gate_by, terms_by}
 use Rattle.placed_boards.specs.Places.{IsPart}
-use Rattle.placed_boards.specs.Rows.{AreRows, gate_terms}
+use Rattle.placed_boards.specs.Rows.{AreRows}
 use Rattle.placed_boards.proofs.RowParts.{gate-part, terms-part}
 use Rattle.joined_rows.specs.PartRows.{logic_terms, preset_terms, presetting_terms, register_terms, reset_terms, resetting_terms}
 use Rattle.new_circuits.specs.NewNumbers.{numbers_of}
@@ -33,7 +32,7 @@ use Rattle.planned_boards.proofs.NewRows.{gate-rows, terms-seen}
 use Rattle.planned_boards.proofs.SharedRows.{shared-rows}
 use Rattle.planned_parts.specs.KeptChips.{AreKeptChips}
 use Rattle.planned_parts.proofs.NewRegisters.{IsNewRegister}
-use Rattle.planned_parts.proofs.RegisterRows.{edge-nodes, made, preset-nodes, register-is, registers, reset-nodes, row, row-seen, term-nodes}
+use Rattle.planned_parts.proofs.RegisterRows.{made, preset-nodes, registers, reset-nodes, row, row-seen, term-nodes}
 use Rattle.planned_parts.proofs.Units.{v8-kind}
 
 module _ (b : Joined) (absorbed : List ℕ) (chips : List NewChip) (kept : AreKeptChips b absorbed chips) (k : ℕ) (r : IsNewRegister b absorbed chips k) where
@@ -76,31 +75,45 @@ module _ (b : Joined) (absorbed : List ℕ) (chips : List NewChip) (kept : AreKe
   logic-part = terms-part a absorbed (numbers_of b chips) (λ f. inverted r.register.low (terms_by f r.register.terms)) (sum_reads r.register.terms) x.terms x.low now.terms logic-rows
       (terms-seen b chips r.unit.chip r.new.chip r.new.found (registers b absorbed chips kept k r) x.terms term-readable (term-nodes b absorbed chips kept k r))
 
-  -- a reset or preset row: that of the first registered unit
-  control-part : (g own firsts : Gate) → AreRows a absorbed (λ f. gate_by f g) (row_reads g) (gate_products own) false →
-      (is_22 r.new.chip.kind ≡ true → share_row (gate_products own) (gate_products firsts) ≡ true) → (is_22 r.new.chip.kind ≡ false → (own ≡ Never) × (firsts ≡ Never)) →
-      ((t : List Literal) → is_22 r.new.chip.kind ≡ true → Among t (gate_products firsts) → IsReadable (old b) r.new.chip t) →
-      AllByRecursion (IsNode (equations_of (new_board b chips))) (row_reads (row b absorbed chips kept k r firsts)) →
-      IsPart a absorbed (numbers_of b chips) (λ f. gate_by f g) (row_reads g) (λ f. gate_by f (row b absorbed chips kept k r firsts)) (row_reads (row b absorbed chips kept k r firsts))
-  control-part g own firsts own_rows shared never readable nodes = at (is_22 r.new.chip.kind) refl
-    where
-      by : AreRows a absorbed (λ f. gate_by f g) (row_reads g) (gate_products firsts) false → ((t : List Literal) → Among t (gate_products firsts) → IsReadable (old b) r.new.chip t) →
-          IsPart a absorbed (numbers_of b chips) (λ f. gate_by f g) (row_reads g) (λ f. gate_by f (row b absorbed chips kept k r firsts)) (row_reads (row b absorbed chips kept k r firsts))
-      by its read = gate-part a absorbed (numbers_of b chips) (λ f. gate_by f g) (row_reads g) (gate_products firsts) (row b absorbed chips kept k r firsts) its (row-seen b absorbed chips kept k r firsts read nodes)
-
-      at : (q : Bool) → is_22 r.new.chip.kind ≡ q →
-          IsPart a absorbed (numbers_of b chips) (λ f. gate_by f g) (row_reads g) (λ f. gate_by f (row b absorbed chips kept k r firsts)) (row_reads (row b absorbed chips kept k r firsts))
-      at true e = by (shared-rows a absorbed (λ f. gate_by f g) (row_reads g) (gate_products own) (gate_products firsts) (shared e) own_rows) (λ t m. readable t e m)
-      at false e =
-          let both = never e in
-          by (subst (λ (h : Gate). AreRows a absorbed (λ f. gate_by f g) (row_reads g) (gate_products h) false) (both.0 ∙ sym both.1) own_rows)
-          (λ t m. none t (subst (λ (h : Gate). Among t (gate_products h)) both.1 m))
-        where
-          none : (t : List Literal) → Among t [] → IsReadable (old b) r.new.chip t
-          none t m = absurd m
-
+  -- the pins read the reset and the preset row
   controls-among : (t : List Literal) → is_22 r.new.chip.kind ≡ true → Among t (controls_of (Some r.first)) → Among t (control_products a r.new.chip)
   controls-among t e m = subst (λ (q : Bool). Among t (cond q (controls_of (first_registered a r.new.chip)) [])) (sym e) (subst (λ (o : Option PlacedUnit). Among t (controls_of o)) (sym r.is_first) m)
+
+  control-readable : (firsts : Gate) → (is_22 r.new.chip.kind ≡ false → firsts ≡ Never) → (t : List Literal) → (Among t (gate_products firsts) → Among t (controls_of (Some r.first))) →
+      Among t (gate_products firsts) → IsReadable (old b) r.new.chip t
+  control-readable firsts never t within m = at (is_22 r.new.chip.kind) refl
+    where
+      none : Among t [] → IsReadable (old b) r.new.chip t
+      none h = absurd h
+
+      at : (q : Bool) → is_22 r.new.chip.kind ≡ q → IsReadable (old b) r.new.chip t
+      at true e = r.kept.controls t (controls-among t e (within m))
+      at false e = none (subst (λ (h : Gate). Among t (gate_products h)) (never e) m)
+
+  no-reset : is_22 r.new.chip.kind ≡ false → r.first.reset ≡ Never
+  no-reset e = sym (ap reset_gate r.is_first) ∙ r.kept.fit.no_reset e
+
+  no-preset : is_22 r.new.chip.kind ≡ false → r.first.preset ≡ Never
+  no-preset e = sym (ap preset_gate r.is_first) ∙ r.kept.fit.no_preset e
+
+  pub reset-readable : (t : List Literal) → Among t (gate_products r.first.reset) → IsReadable (old b) r.new.chip t
+  reset-readable t m = control-readable r.first.reset no-reset t (among-left t (gate_products r.first.reset) (gate_products r.first.preset)) m
+
+  pub preset-readable : (t : List Literal) → Among t (gate_products r.first.preset) → IsReadable (old b) r.new.chip t
+  preset-readable t m = control-readable r.first.preset no-preset t (among-right t (gate_products r.first.reset) (gate_products r.first.preset)) m
+
+  -- a reset or preset row: that of the first registered unit
+  control-part : (g own firsts : Gate) → AreRows a absorbed (λ f. gate_by f g) (row_reads g) (gate_products own) false →
+      (is_22 r.new.chip.kind ≡ true → share_row (gate_products own) (gate_products firsts) ≡ true) → (is_22 r.new.chip.kind ≡ false → own ≡ firsts) →
+      ((t : List Literal) → Among t (gate_products firsts) → IsReadable (old b) r.new.chip t) →
+      AllByRecursion (IsNode (equations_of (new_board b chips))) (row_reads (row b absorbed chips kept k r firsts)) →
+      IsPart a absorbed (numbers_of b chips) (λ f. gate_by f g) (row_reads g) (λ f. gate_by f (row b absorbed chips kept k r firsts)) (row_reads (row b absorbed chips kept k r firsts))
+  control-part g own firsts own_rows shared same readable nodes =
+      gate-part a absorbed (numbers_of b chips) (λ f. gate_by f g) (row_reads g) (gate_products firsts) (row b absorbed chips kept k r firsts) (at (is_22 r.new.chip.kind) refl) (row-seen b absorbed chips kept k r firsts readable nodes)
+    where
+      at : (q : Bool) → is_22 r.new.chip.kind ≡ q → AreRows a absorbed (λ f. gate_by f g) (row_reads g) (gate_products firsts) false
+      at true e = shared-rows a absorbed (λ f. gate_by f g) (row_reads g) (gate_products own) (gate_products firsts) (shared e) own_rows
+      at false e = subst (λ (h : Gate). AreRows a absorbed (λ f. gate_by f g) (row_reads g) (gate_products h) false) (same e) own_rows
 
   -- reset
 
@@ -112,8 +125,7 @@ module _ (b : Joined) (absorbed : List ℕ) (chips : List NewChip) (kept : AreKe
   reset-part = control-part r.register.reset x.reset r.first.reset
       (gate-rows a absorbed r.register.reset (gate_products x.reset)
       (subst (λ (o : Option Register). AreRows a absorbed (λ f. terms_by f (reset_terms o)) (sum_reads (reset_terms o)) (gate_products x.reset) false) r.found reset-gives))
-      shares.reset (λ e. ((suits e).reset, sym (ap reset_gate r.is_first) ∙ r.kept.fit.no_reset e))
-      (λ t e m. r.kept.controls t (controls-among t e (among-left t (gate_products r.first.reset) (gate_products r.first.preset) m)))
+      shares.reset (λ e. (suits e).reset ∙ sym (no-reset e)) reset-readable
       (reset-nodes b absorbed chips kept k r)
 
   -- preset
@@ -126,6 +138,5 @@ module _ (b : Joined) (absorbed : List ℕ) (chips : List NewChip) (kept : AreKe
   preset-part = control-part r.register.preset x.preset r.first.preset
       (gate-rows a absorbed r.register.preset (gate_products x.preset)
       (subst (λ (o : Option Register). AreRows a absorbed (λ f. terms_by f (preset_terms o)) (sum_reads (preset_terms o)) (gate_products x.preset) false) r.found preset-gives))
-      shares.preset (λ e. ((suits e).preset, sym (ap preset_gate r.is_first) ∙ r.kept.fit.no_preset e))
-      (λ t e m. r.kept.controls t (controls-among t e (among-right t (gate_products r.first.reset) (gate_products r.first.preset) m)))
+      shares.preset (λ e. (suits e).preset ∙ sym (no-preset e)) preset-readable
       (preset-nodes b absorbed chips kept k r)

@@ -1,26 +1,25 @@
 -- A register of the new board with its rows over old variables.
-use Rattle.std.proofs.Common.{ℕ, ◌≡◌, Bool, true, false, List, [], ◌∷◌, ◌++◌, map, Option, Some, refl, sym, ap, ◌∙◌, subst, inl}
+use Rattle.std.proofs.Common.{ℕ, ◌≡◌, List, [], ◌∷◌, ◌++◌, map, Option, Some, refl, ap, ◌∙◌, inl}
 use Rattle.std.specs.List.{AllByRecursion, slice_get}
 use Rattle.std.specs.Option.{option_map}
 use Rattle.std.proofs.lemmas.Option.{slice_get-map}
 use Rattle.mig_base.specs.declared.cells.Cell.{Cell}
 use Rattle.mig_base.specs.declared.cells.ChipCells.{ChipCells}
 use Rattle.mig_base.specs.declared.circuit.Literal.{Literal}
-use Rattle.mig_base.specs.declared.circuit.Read.{Read}
 use Rattle.mig_base.specs.declared.circuit.Gate.{Gate}
 use Rattle.mig_base.specs.declared.circuit.Gate.TheVariants.{Never, Product}
 use Rattle.mig_base.specs.declared.circuit.Register.{Register}
 use Rattle.mig_base.specs.declared.circuit.Circuit.{Circuit}
 use Rattle.mig_base.specs.Among.{Among}
-use Rattle.mig_base.specs.Boards.{ChipUnit, literals_of, net_of, register_of, registers_of, row_on}
+use Rattle.mig_base.specs.Boards.{literals_of, net_of, register_of, registers_of, row_on}
 use Rattle.mig_base.specs.Reads.{IsNode, edge_reads}
-use Rattle.mig_base.specs.Values.{product_reads, row_reads, sum_reads}
+use Rattle.mig_base.specs.Values.{row_reads, sum_reads}
 use Rattle.level_laws.proofs.Unique.{all_left, all_right}
 use Rattle.board.specs.Joined.{Joined, equations_of}
 use Rattle.read_nodes.proofs.GivenNodes.{given-nodes}
 use Rattle.new_board.specs.declared.types.PlacedUnit.{PlacedUnit}
 use Rattle.new_board.specs.NewChip.{gate_products}
-use Rattle.new_board.specs.NewFiles.{new_cells, new_product, new_reg, new_row, preset_gate, reset_gate}
+use Rattle.new_board.specs.NewFiles.{new_product, new_reg, new_row, preset_gate, reset_gate}
 use Rattle.new_board.proofs.Columns.{IsReadable, RegistersFit}
 use Rattle.new_board.proofs.WellMade.{registers-fit}
 use Rattle.new_board.specs.NewChip.{NewChip}

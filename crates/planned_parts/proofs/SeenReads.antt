@@ -1,20 +1,18 @@
 -- What a row of a new chip reads on the new board is a register, or a net that stands for an old one.
-use Rattle.std.proofs.Common.{ℕ, ◌≡◌, ◌⊎◌, ◌<◌, ◌≤◌, Bool, true, false, not, cond, ◌&&◌, List, [], ◌∷◌, ◌++◌, map, Option, Some, None, is_some, refl, sym, ap, ◌∙◌, subst, inl, inr, eqb, eqb-true, arith}
+use Rattle.std.proofs.Common.{ℕ, ◌≡◌, ◌⊎◌, false, cond, List, [], ◌∷◌, map, Option, Some, None, is_some, refl, sym, ap, ◌∙◌, subst, inl, inr}
 use Rattle.std.specs.List.{slice_get}
-use Rattle.std.proofs.lemmas.Bool.{cases_lt}
 use Rattle.std.proofs.lemmas.Option.{same_Some}
 use Rattle.mig_base.specs.declared.cells.Lit.{Lit}
 use Rattle.mig_base.specs.declared.cells.Source.{Source}
 use Rattle.mig_base.specs.declared.cells.Source.TheVariants.{Pin, Reg}
 use Rattle.mig_base.specs.declared.circuit.Literal.{Literal}
 use Rattle.mig_base.specs.declared.circuit.Read.{Read}
-use Rattle.mig_base.specs.declared.circuit.Read.TheVariants.{OfNet, OfRegister}
+use Rattle.mig_base.specs.declared.circuit.Read.TheVariants.{OfNet}
 use Rattle.mig_base.specs.declared.circuit.Gate.{Gate}
 use Rattle.mig_base.specs.declared.circuit.Gate.TheVariants.{Never, Product}
 use Rattle.mig_base.specs.declared.circuit.Circuit.{Circuit}
 use Rattle.mig_base.specs.Among.{Among}
-use Rattle.mig_base.specs.Boards.{enable_on, net_of, read_of, row_on}
-use Rattle.mig_base.specs.DeviceTables.{ordinary_pins}
+use Rattle.mig_base.specs.Boards.{enable_on, read_of, row_on}
 use Rattle.mig_base.specs.Reads.{IsNode}
 use Rattle.mig_base.specs.Values.{product_reads, row_reads, sum_reads}
 use Rattle.mig_base.proofs.Amongs.{among-map, among-split}
