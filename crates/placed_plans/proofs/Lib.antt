@@ -1,0 +1,2 @@
+pub mod OncePlaced
+pub mod Places
