@@ -39,16 +39,21 @@ module _ (b : Joined) (p : Plan) (given : IsGiven b.net b.chips) (plan : IsPlan 
   pair-of x first on registered is_first =
       let y = placing-of b p given plan none c there chip is x on in
       let f = first-both b (absorbed_units b p) (placings_on b p c.name) chip.units is.units first is_first in
-      let kept = among-unfilter (is_registered_unit (equations_of b)) first chip.units (first-among (filter (is_registered_unit (equations_of b)) chip.units) first is_first) in
-      (y.0, (f.0, record {
-        among = y.2.placed.among;
-        chip = y.2.placed.chip;
-        rows = y.2.rows;
-        registered = same-register b (absorbed_units b p) y.0 x y.2.rows ∙ registered;
-        is_first = ap (λ (d : PlanChip). first_of (filter (λ (z : Placing). has_register b z.unit) (placings_on b p d.name))) y.2.placed.chip ∙ f.1;
-        first_rows = f.2;
-        first_registered = same-register b (absorbed_units b p) f.0 first f.2 ∙ kept.1;
-      }))
+      let kept = among-unfilter (is_registered_unit (equations_of b)) first chip.units (first-among (filter (is_registered_unit (equations_of b)) chip.units) first is_first) in (
+        y.0,
+        (
+          f.0,
+          record {
+            among = y.2.placed.among;
+            chip = y.2.placed.chip;
+            rows = y.2.rows;
+            registered = same-register b (absorbed_units b p) y.0 x y.2.rows ∙ registered;
+            is_first = ap (λ (d : PlanChip). first_of (filter (λ (z : Placing). has_register b z.unit) (placings_on b p d.name))) y.2.placed.chip ∙ f.1;
+            first_rows = f.2;
+            first_registered = same-register b (absorbed_units b p) f.0 first f.2 ∙ kept.1;
+          },
+        ),
+      )
 
   -- the clock of a registered unit
   clock-is : (x : PlacedUnit) → is_registered_unit (equations_of b) x ≡ true → placed_clock (equations_of b) x ≡ Some (clock_of b x.unit)

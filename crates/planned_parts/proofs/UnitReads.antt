@@ -29,6 +29,7 @@ use Rattle.planned_parts.specs.KeptChips.{AreKeptChips, ReadsStaying}
 use Rattle.planned_parts.proofs.SeenReads.{AreSeenRows, enable-sees, sum-sees}
 use Rattle.planned_parts.proofs.Unabsorbed.{literal-stays}
 use Rattle.planned_parts.proofs.Units.{kept-chip, on-its-chip}
+
 module _ (b : Joined) (absorbed : List ℕ) (chips : List NewChip) (kept : AreKeptChips b absorbed chips) where
   abbrev a : Circuit
   a = equations_of b
