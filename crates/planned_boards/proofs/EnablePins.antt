@@ -1,10 +1,9 @@
 -- On a V8 the enable pin stands on the net of the enable of the first registered unit.
-use Rattle.std.proofs.Common.{ℕ, ◌≡◌, Bool, true, false, ◌&&◌, List, [], ◌∷◌, Option, Some, None, refl, sym, ap, ◌∙◌, subst, eqb, eq-eqb}
+use Rattle.std.proofs.Common.{ℕ, ◌≡◌, Bool, true, false, ◌&&◌, List, Option, Some, None, refl, sym, ap, ◌∙◌, eqb, eq-eqb}
 use Rattle.std.specs.Prelude.{option_and_then}
-use Rattle.std.specs.List.{list_any, slice_get}
+use Rattle.std.specs.List.{slice_get}
 use Rattle.mig_base.specs.declared.kinds.Kind.{Kind}
 use Rattle.mig_base.specs.declared.kinds.Kind.TheVariants.{Gal16V8, Gal20V8}
-use Rattle.mig_base.specs.Among.{Among}
 use Rattle.mig_base.specs.Boards.{net_of}
 use Rattle.mig_base.specs.Cells.{is_among}
 use Rattle.mig_base.specs.DeviceTables.{cell_pins, clock_pin, enable_pin, is_22, is_v8, ordinary_pins}

@@ -1,5 +1,5 @@
 -- A registered unit on a V8 has the enable of its old unit, by the enable pin of its chip, and shows the register that stands for the old one.
-use Rattle.std.proofs.Common.{ℕ, ◌≡◌, Bool, true, false, cond, List, [], ◌∷◌, ◌++◌, map, Option, Some, is_some, refl, sym, ap, ◌∙◌, subst}
+use Rattle.std.proofs.Common.{ℕ, ◌≡◌, Bool, true, cond, List, [], ◌∷◌, ◌++◌, map, Option, Some, is_some, refl, sym, ap, ◌∙◌, subst}
 use Rattle.std.specs.List.{AllByRecursion, filter, slice_get}
 use Rattle.mig_base.specs.declared.cells.Cell.{Cell}
 use Rattle.mig_base.specs.declared.cells.Enable.TheVariants as enable
@@ -9,7 +9,7 @@ use Rattle.mig_base.specs.declared.circuit.Driver.{Driver}
 use Rattle.mig_base.specs.declared.circuit.Circuit.{Circuit}
 use Rattle.mig_base.specs.Among.{Among}
 use Rattle.mig_base.specs.Boards.{ChipUnit, at_of, driver_of, enable_on, low_pin, net_of, place_of, registers_of}
-use Rattle.mig_base.specs.DeviceTables.{enable_pin, is_22, is_v8}
+use Rattle.mig_base.specs.DeviceTables.{enable_pin, is_v8}
 use Rattle.mig_base.specs.Given.{IsGiven}
 use Rattle.mig_base.specs.Reads.{IsNode, driver_reads}
 use Rattle.mig_base.specs.Values.{row_reads}

@@ -74,13 +74,13 @@ module _ (b : Joined) (given : IsGiven b.net b.chips) where
       let among : Among (at_of x.0) pins = map-among at_of x.0 (registers_of units) (among-get (registers_of units) k x.0 x.1) in
       let j = place_of (at_of x.0) pins in
       let pin : slice_get pins j ≡ Some (at_of x.0) = place-get (at_of x.0) pins among in
-      let y = at (slice_get (registers_of units) j) refl (sym (slice_get-map at_of (registers_of units) j) ∙ pin) in
+      let y = at j (slice_get (registers_of units) j) refl (sym (slice_get-map at_of (registers_of units) j) ∙ pin) in
       let there = place-at j y.0 y.1 in
       let other = among-filter is_registered y.0 units (among-get (registers_of units) j y.0 y.1) in
       let same : k ≡ j = same-place k j here.0 there.0 x.0 y.0 here.2 there.2 passes.0 other.0 (sym y.2) here.1 there.1 in
       subst (λ (i : ℕ). HasRegister i (slice_get (equations_of b).units (owner k))) (sym same)
       (subst (λ (p : ℕ). HasRegister j (slice_get (equations_of b).units p)) (sym (ap or_zero here.1)) (has-register here.0 x.0 here.2 passes.0))
     where
-      at : {q : At} (o : Option ChipUnit) {j : ℕ} → slice_get (registers_of units) j ≡ o → option_map at_of o ≡ Some q → (y : ChipUnit) × (slice_get (registers_of units) j ≡ Some y) × (at_of y ≡ q)
-      at None is e = cc
-      at {q} (Some y) is e = (y, is, same_Some (at_of y) q e)
+      at : {q : At} (j : ℕ) (o : Option ChipUnit) → slice_get (registers_of units) j ≡ o → option_map at_of o ≡ Some q → (y : ChipUnit) × (slice_get (registers_of units) j ≡ Some y) × (at_of y ≡ q)
+      at j None is e = cc
+      at {q} j (Some y) is e = (y, is, same_Some (at_of y) q e)
