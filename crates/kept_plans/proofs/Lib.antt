@@ -5,5 +5,4 @@ pub mod FirstUnits
 pub mod SharedRules
 pub mod SharedChips
 pub mod LiveUnits
-pub mod PlacedOnce
 pub mod KeptChips

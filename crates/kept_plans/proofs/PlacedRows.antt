@@ -40,7 +40,7 @@ at-number chips u name (Some t) x e = on-number u name t.pin (chip_named chips t
 pub placing-unit : (b : Joined) (p : Plan) (x : Placing) → Among x (placings b p) → (q : ℕ × PinName) × Among q (numbered_units b) × (placing_of p q ≡ Some x) × (x.unit ≡ q.0)
 placing-unit b p x a =
     let q = among-unfilter_map (placing_of p) x (numbered_units b) a in
-    (q.0, q.1, (q.2, (at-number p.chips q.0.0 q.0.1 (target_in p.lines q.0.1) x q.2).0))
+    (q.0, q.1, q.2, (at-number p.chips q.0.0 q.0.1 (target_in p.lines q.0.1) x q.2).0)
 
 pub number-below : (u : ℕ) (names : List PinName) (q : ℕ × PinName) → Among q (numbered_from u names) → q.0 < u + length names
 number-below u [] q a = absurd a
@@ -53,7 +53,7 @@ placed-driver b p x a =
     let less : q.0.0 < 0 + length (unit_names b) = number-below 0 (unit_names b) q.0 q.1 in
     let named : length (unit_names b) ≡ length (units_from 0 b.chips) = length-map (units_from 0 b.chips) (unit_name b.net) in
     let driven : length (equations_of b).units ≡ length (units_from 0 b.chips) = length-map (units_from 0 b.chips) (driver_of b.net (units_from 0 b.chips)) in
-    item-at (equations_of b).units x.unit (omega (arith, less, named, driven, q.2.1))
+    item-at (equations_of b).units x.unit (omega (arith, less, named, driven, q.3))
 
 module _ (b : Joined) (p : Plan) (given : IsGiven b.net b.chips) (absorbable : AreAbsorbable b (absorbed_units b p)) (y : Placing) (there : Among y (placings b p)) (x : PlacedUnit) (rows : AreRows b (absorbed_units b p) y x) where
   abbrev absorbed : List ℕ

@@ -1,2 +1,1 @@
-pub mod OncePlaced
 pub mod Places

@@ -28,7 +28,7 @@ use Rattle.planned_parts.proofs.NodeReads.{edge-sees, node-sees}
 use Rattle.planned_parts.proofs.Owners.{owner, owner-has}
 use Rattle.planned_parts.proofs.Units.{unit-placed}
 use Rattle.kept_plans.proofs.KeptChips.{chips-kept, units-planned}
-use Rattle.placed_plans.proofs.OncePlaced.{placed-once}
+use Rattle.placed_once.proofs.PlacedApart as apart
 
 module _ (b : Joined) (p : Plan) (chips : List NewChip) (flags : List Bool) (given : IsGiven b.net b.chips) (accepted : IsAccepted (equations_of b)) (plan : IsPlan p) (none : HasNoBreach b p)
     (are : AreNewChips b p chips) (liveness : IsLiveness (equations_of b) flags) where
@@ -51,7 +51,7 @@ module _ (b : Joined) (p : Plan) (chips : List NewChip) (flags : List Bool) (giv
   planned = units-planned b p chips given plan none are flags liveness
 
   once : ArePlacedOnce b absorbed chips
-  once = placed-once b p none chips are
+  once = apart.once b p chips none are
 
   units : (v : ℕ) (driver : Driver) → slice_get new.units v ≡ Some driver → IsPlacedUnit a absorbed (numbers_of b chips) v driver
   units v driver e = unit-placed b absorbed chips kept v driver e

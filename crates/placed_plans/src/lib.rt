@@ -14,12 +14,6 @@ ghost use Rattle.plans.specs.Fitting.{AreNewChips, new_board};
 ghost use Rattle.plans.specs.Breaches.{HasNoBreach};
 ghost use Rattle.placed_boards.specs.Places.{Places};
 ghost use Rattle.new_circuits.specs.NewNumbers.{is_seen, numbers_of};
-ghost use Rattle.planned_nets.specs.PlacedOnce.{ArePlacedOnce};
-
-/// The new chips of a plan without breach hold each unit once, and no absorbed one.
-pub fn plans_place_units_once()
-    ensures { (b : Joined) (p : Plan) (chips : List NewChip) → HasNoBreach b p → AreNewChips b p chips → ArePlacedOnce b (absorbed_units b p) chips }
-{}
 
 /// The new board of a plan without breach, row by row, places the units of the old one, which is accepted.
 pub fn plans_place_boards()
