@@ -116,3 +116,7 @@ all-well (line ∷ lines) (c ∷ cs) made = (made-well line c made.0, all-well l
 -- a board of given cells
 pub given-wired : (net : Net) (chips : List ChipCells) → IsGiven net chips → IsWired (circuit net chips)
 given-wired net chips given = well-wired net chips (all-well net.chips chips given.cells)
+
+-- no two units of a given board are on one pin
+pub given-apart : (net : Net) (chips : List ChipCells) → IsGiven net chips → UnitsApart (units_from 0 chips)
+given-apart net chips given = apart-units (units_from 0 chips) (chips-apart 0 chips (all-well net.chips chips given.cells))

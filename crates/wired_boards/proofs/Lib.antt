@@ -1,2 +1,3 @@
 pub mod Wirings
 pub mod ApartUnits
+pub mod UnitPins

@@ -1,0 +1,3 @@
+pub mod LinesApart
+pub mod NeverRows
+pub mod PlacedApart
