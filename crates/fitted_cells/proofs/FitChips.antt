@@ -28,7 +28,7 @@ use Rattle.mig_base.specs.declared.circuit.Read.{Read}
 use Rattle.new_board.proofs.Items.{all-pass, among-unfilter}
 use Rattle.new_board.proofs.Columns.{first-among}
 use Rattle.new_board.proofs.Reading.{EnableApart}
-use Rattle.new_board.proofs.WellMade.{IsFitUnit, chip-well}
+use Rattle.new_board.proofs.WellMade.{IsFitChip, IsFitUnit, chip-well}
 use Rattle.plan_text.specs.PlanText.{IsPlan, is_plan_chip}
 use Rattle.plans.specs.declared.placing.Placing.{Placing}
 use Rattle.plans.specs.Placings.{old, placings, placings_on, absorbed_units}
@@ -45,19 +45,19 @@ use Rattle.fitted_cells.proofs.FitUnits.{IsPlacedUnit, fit-by, in-mode, register
 use Rattle.fitted_cells.proofs.ReadableRows.{unit-own, row-readable, enable-apart}
 
 -- a unit of a new chip
-abbrev HasPlacing : Joined → Plan → PlanChip → NewChip → PlacedUnit → Type 0
+abbrev pub HasPlacing : Joined → Plan → PlanChip → NewChip → PlacedUnit → Type 0
 HasPlacing b p c chip x = (y : Placing) × Among y (placings_on b p c.name) × IsPlacedUnit b p c chip y x
 
 module _ (b : Joined) (p : Plan) (given : IsGiven b.net b.chips) (plan : IsPlan p) (none : HasNoBreach b p) (c : PlanChip) (there : Among c p.chips) (chip : NewChip) (is : IsNewChip b p c chip) where
-  chip-said : (is_name c.name ≡ true) × ((is_gal c.kind ≡ true) × (has_mode c.kind c.mode ≡ true))
+  pub chip-said : (is_name c.name ≡ true) × ((is_gal c.kind ≡ true) × (has_mode c.kind c.mode ≡ true))
   chip-said = let all = and_parts _ _ (all-pass is_plan_chip c p.chips plan.named_chips there) in let both = and_parts _ _ all.0 in (both.0, (both.1, all.1))
 
-  placing-of : (x : PlacedUnit) → Among x chip.units → HasPlacing b p c chip x
+  pub placing-of : (x : PlacedUnit) → Among x chip.units → HasPlacing b p c chip x
   placing-of x a =
       let y = each-back (AreRows b (absorbed_units b p)) (placings_on b p c.name) chip.units x is.units a in
       (y.0, y.1, record { placed = placed-on b p c y.0 none there y.1; rows = y.2; is_new = is; gal = chip-said.1.0; mode = chip-said.1.1 })
 
-  served : first_unserved (old b) chip ≡ None
+  pub served : first_unserved (old b) chip ≡ None
   served = at (first_unserved (old b) chip) refl
     where
       at : (o : Option Read) → first_unserved (old b) chip ≡ o → o ≡ None
@@ -100,10 +100,10 @@ module _ (b : Joined) (p : Plan) (given : IsGiven b.net b.chips) (plan : IsPlan 
       at q (inl s) h = let wrong : true ≡ false = sym (ap (λ (k : Mode). is_out_of_mode k true q) s) ∙ h in cc
       at q (inr s) h = let wrong : true ≡ false = sym (ap (λ (k : Mode). is_out_of_mode k true q) s) ∙ h in cc
 
-  apart : EnableApart (old b) chip
+  pub apart : EnableApart (old b) chip
   apart = enable-apart (old b) chip ((λ i. has_mode (is.kind i) (is.mode i)) ∙ chip-said.1.1) out-of-mode
 
-  fit-unit : (x : PlacedUnit) → Among x chip.units → IsFitUnit (old b) chip x
+  pub fit-unit : (x : PlacedUnit) → Among x chip.units → IsFitUnit (old b) chip x
   fit-unit x a =
       let y = placing-of x a in
       let own = own-rows x y.0 y.2.rows in
@@ -161,11 +161,14 @@ module _ (b : Joined) (p : Plan) (given : IsGiven b.net b.chips) (plan : IsPlan 
   controls on None e = (refl, refl)
   controls on (Some x) e = both-never x e on
 
-  pub well : IsWellFormed (new_cells (old b) chip)
-  well = chip-well (old b) chip (record {
+  pub fit-chip : IsFitChip (old b) chip
+  fit-chip = record {
     gal = ap is_gal is.kind ∙ chip-said.1.0;
     mode = (λ i. has_mode (is.kind i) (is.mode i)) ∙ chip-said.1.1;
     units = fit-unit;
     no_reset = λ on. (controls on (first_registered (equations_of b) chip) refl).0;
     no_preset = λ on. (controls on (first_registered (equations_of b) chip) refl).1;
-  })
+  }
+
+  pub well : IsWellFormed (new_cells (old b) chip)
+  well = chip-well (old b) chip fit-chip

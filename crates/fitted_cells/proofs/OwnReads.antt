@@ -175,7 +175,7 @@ over-named b absorbed v terms over (itself x stands is none) = subst (λ (w : Va
 over-named b absorbed v terms over (through x stands n u is by more) = over-named b absorbed v (unit_part b u Logic).terms (over-part b u Logic) more
 
 -- the Booleans of variables are of them
-rail-variable : (n : ℕ) (vars : List (Var × Bool)) (r : Rail) → Among r (rails_from n vars) → (w : Var × Bool) × Among w vars × (r.var ≡ w.0)
+pub rail-variable : (n : ℕ) (vars : List (Var × Bool)) (r : Rail) → Among r (rails_from n vars) → (w : Var × Bool) × Among w vars × (r.var ≡ w.0)
 rail-variable n [] r a = absurd a
 rail-variable n (w ∷ ws) r a = at (among-split r (rails_of n w) (rails_from (n + 1) ws) a) (rail-variable (n + 1) ws r)
   where
@@ -186,7 +186,7 @@ rail-variable n (w ∷ ws) r a = at (among-split r (rails_of n w) (rails_from (n
         (w, inl refl, ap (λ (q : Rail). q.var) side.2)
     at (inr h) rest = let v = rest h in (v.0, inr v.1, v.2)
 
-rail-read : (b : Joined) (rails : List Rail) (l : ℕ × Bool) (x : Literal) → rail_literal b rails l ≡ Some x → (r : Rail) × Among r rails × (x.source ≡ read_of b.chips r.var)
+pub rail-read : (b : Joined) (rails : List Rail) (l : ℕ × Bool) (x : Literal) → rail_literal b rails l ≡ Some x → (r : Rail) × Among r rails × (x.source ≡ read_of b.chips r.var)
 rail-read b rails l x e = at (slice_get rails l.0) refl e
   where
     at : (o : Option Rail) → slice_get rails l.0 ≡ o → option_map (λ r. over_board b (literal_of r l.1)) o ≡ Some x → (r : Rail) × Among r rails × (x.source ≡ read_of b.chips r.var)

@@ -61,11 +61,11 @@ module _ (b : Joined) (absorbed : List ℕ) (chips : List NewChip) (given : IsGi
       ((given-nodes (new_board b chips).net (new_board b chips).chips given).units v)
 
   module _ (fit : IsFitChip (old b) n.chip) (rows : HasPartRows b absorbed n.unit) (none : placed_register a n.unit ≡ None) where
-    comb-cell : u.cell ≡ new_comb (old b) n.chip u.cell.pin n.unit n.unit.enable
+    pub comb-cell : u.cell ≡ new_comb (old b) n.chip u.cell.pin n.unit n.unit.enable
     comb-cell = n.cell ∙ ap (cell_of (old b) n.chip u.cell.pin) n.placed ∙ ap (cell_by (old b) n.chip u.cell.pin n.unit) none
 
     -- its driver, by its row
-    abbrev made : List Literal → Driver
+    abbrev pub made : List Literal → Driver
     made lits = record {
       enable = enable_on (new_wiring b chips) (new_units b chips) u.chip (new_enable (old b) n.chip (Product lits));
       gives = Sum (map (new_literals b chips u.chip n.chip) n.unit.terms);
@@ -84,13 +84,13 @@ module _ (b : Joined) (absorbed : List ℕ) (chips : List NewChip) (given : IsGi
     registers = registers-fit (old b) n.chip fit
 
     module _ (lits : List Literal) (e : n.unit.enable ≡ Product lits) where
-      products-are : unit_products a n.chip n.unit ≡ lits ∷ n.unit.terms
+      pub products-are : unit_products a n.chip n.unit ≡ lits ∷ n.unit.terms
       products-are = ap (λ (o : Option ℕ). products_by (is_22 n.chip.kind) o n.unit) none ∙ ap (λ (g : Gate). comb_products g n.unit.terms) e
 
-      readable : (t : List Literal) → Among t (lits ∷ n.unit.terms) → IsReadable (old b) n.chip t
+      pub readable : (t : List Literal) → Among t (lits ∷ n.unit.terms) → IsReadable (old b) n.chip t
       readable t m = (fit.units n.unit (on-unit n.chip.units u.cell.pin n.unit n.placed).0).readable t (subst (Among t) (sym products-are) m)
 
-      driver-is : driver ≡ made lits
+      pub driver-is : driver ≡ made lits
       driver-is =
           ap (λ (c : Cell). driver_of (new_wiring b chips) (new_units b chips) (record { chip = u.chip; cells = u.cells; cell = c })) (comb-cell ∙ ap (new_comb (old b) n.chip u.cell.pin n.unit) e)
           ∙ ap (λ (ts : List (List Literal)). record { enable = (made lits).enable; gives = Sum ts; low = n.unit.low })

@@ -31,11 +31,11 @@ use Rattle.placed_boards.proofs.Naming.{variable-none, variable-some}
 use Rattle.placed_boards.proofs.RowParts.{gate-part, ground-part, power-part}
 use Rattle.planned_boards.specs.Planned.{IsEnablePin}
 
-when-is : (q : Bool) (k n : ℕ) → when q (Some k) ≡ Some n → (q ≡ true) × (k ≡ n)
+pub when-is : (q : Bool) (k n : ℕ) → when q (Some k) ≡ Some n → (q ≡ true) × (k ≡ n)
 when-is true k n e = (refl, same_Some k n e)
 when-is false k n e = cc
 
-made-from : (n start count : ℕ) → Among n (made_from (λ k. k) start count) → start ≤ n
+pub made-from : (n start count : ℕ) → Among n (made_from (λ k. k) start count) → start ≤ n
 made-from n start zero m = absurd m
 made-from n start (suc count) (inl e) = omega (arith, e)
 made-from n start (suc count) (inr m) = omega (arith, made-from n (start + 1) count m)

@@ -50,7 +50,7 @@ module _ (b : Joined) (absorbed : List ℕ) (chips : List NewChip) (given : IsGi
   abbrev d : Driver
   d = rows.driver
 
-  abbrev place : ℕ
+  abbrev pub place : ℕ
   place = place_of (u.chip, u.cell.pin) (map at_of (registers_of (new_units b chips)))
 
   pub reg-cell : u.cell ≡ new_reg (old b) n.chip u.cell.pin n.unit
@@ -71,14 +71,14 @@ module _ (b : Joined) (absorbed : List ℕ) (chips : List NewChip) (given : IsGi
   gives-part made gives low number (Visible i) r = (same_Some i k r ∙ sym number, sym (ap pin_low_of rows.found) ∙ sym low)
 
   module _ (is_on_22 : is_22 n.chip.kind ≡ true) where
-    abbrev made : Driver
+    abbrev pub made : Driver
     made = record {
       enable = enable_on (new_wiring b chips) (new_units b chips) u.chip (new_enable (old b) n.chip n.unit.enable);
       gives = Visible place;
       low = pin_low_of (slice_get a.units n.unit.unit);
     }
 
-    driver-is : driver ≡ made
+    pub driver-is : driver ≡ made
     driver-is =
         ap (λ (c : Cell). driver_of (new_wiring b chips) (new_units b chips) (record { chip = u.chip; cells = u.cells; cell = c })) reg-cell
         ∙ ap (λ (q : Bool). record { enable = enable_on (new_wiring b chips) (new_units b chips) u.chip (cond q (new_enable (old b) n.chip n.unit.enable) (enable.LowPin (enable_pin n.chip.kind))); gives = made.gives; low = made.low }) is_on_22
@@ -86,7 +86,7 @@ module _ (b : Joined) (absorbed : List ℕ) (chips : List NewChip) (given : IsGi
     nodes : AllByRecursion (IsNode new) (row_reads made.enable ++ OfRegister place ∷ [])
     nodes = subst (λ (x : Driver). AllByRecursion (IsNode new) (driver_reads (Some x))) driver-is (unit-nodes b absorbed chips given v u at n)
 
-    readable : (t : List Literal) → Among t (gate_products n.unit.enable) → IsReadable (old b) n.chip t
+    pub readable : (t : List Literal) → Among t (gate_products n.unit.enable) → IsReadable (old b) n.chip t
     readable t m =
         let products : unit_products a n.chip n.unit ≡ n.unit.terms ++ gate_products n.unit.enable =
         ap (λ (o : Option ℕ). products_by (is_22 n.chip.kind) o n.unit) is ∙ ap (λ (q : Bool). products_by q (Some k) n.unit) is_on_22 in

@@ -8,7 +8,7 @@ ghost use Rattle.mig_base.specs.declared.circuit.Literal.{Literal};
 ghost use Rattle.mig_base.specs.declared.circuit.Circuit.{Circuit};
 ghost use Rattle.mig_base.specs.declared.circuit.Gate.{Gate};
 ghost use Rattle.mig_base.specs.Boards.{ChipUnit, driver_of, low_pin};
-ghost use Rattle.mig_base.specs.DeviceTables.{is_22};
+ghost use Rattle.mig_base.specs.DeviceTables.{is_22, is_v8};
 ghost use Rattle.mig_base.specs.Given.{IsGiven};
 ghost use Rattle.mig_base.specs.Values.{row_reads};
 ghost use Rattle.board.specs.Joined.{Joined, equations_of};
@@ -22,7 +22,7 @@ ghost use Rattle.carried_boards.specs.Carries.{Numbers};
 ghost use Rattle.placed_boards.specs.Places.{IsPart, IsPlacedUnit};
 ghost use Rattle.placed_boards.specs.Rows.{AreRows};
 ghost use Rattle.new_circuits.specs.NewNumbers.{new_wiring, new_units, numbers_of, IsNewUnit};
-ghost use Rattle.planned_boards.specs.Planned.{HasPartRows, IsEnablePin};
+ghost use Rattle.planned_boards.specs.Planned.{HasPartRows, IsEnablePin, IsPlannedChip};
 
 /// On the new board a combinational unit whose rows are rows of its old unit's parts has that unit's enable and logic.
 pub fn combinational_units_are_placed()
@@ -38,6 +38,15 @@ pub fn registered_units_on_22v10_are_placed()
     ensures { (b : Joined) (absorbed : List ℕ) (chips : List NewChip) → IsGiven (new_board b chips).net (new_board b chips).chips →
         (v : ℕ) (u : ChipUnit) → slice_get (new_units b chips) v ≡ Some u → (n : IsNewUnit b chips u) → IsFitChip (old b) n.chip → HasPartRows b absorbed n.unit →
         (k : ℕ) → placed_register (equations_of b) n.unit ≡ Some k → is_22 n.chip.kind ≡ true →
+        IsPlacedUnit (equations_of b) absorbed (numbers_of b chips) v (driver_of (new_wiring b chips) (new_units b chips) u) }
+{}
+
+/// On the new board a registered unit of a V8 has its old unit's enable by the enable pin of its chip, and shows the register that
+/// stands for its old one, as it did.
+pub fn registered_units_on_v8_are_placed()
+    ensures { (b : Joined) (absorbed : List ℕ) (chips : List NewChip) → IsGiven (new_board b chips).net (new_board b chips).chips →
+        (v : ℕ) (u : ChipUnit) → slice_get (new_units b chips) v ≡ Some u → (n : IsNewUnit b chips u) → IsFitChip (old b) n.chip → IsPlannedChip b absorbed n.chip →
+        (k : ℕ) → placed_register (equations_of b) n.unit ≡ Some k → is_v8 n.chip.kind ≡ true →
         IsPlacedUnit (equations_of b) absorbed (numbers_of b chips) v (driver_of (new_wiring b chips) (new_units b chips) u) }
 {}
 

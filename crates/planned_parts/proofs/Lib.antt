@@ -1,0 +1,12 @@
+pub mod Owners
+pub mod Units
+pub mod NewRegisters
+pub mod RegisterRows
+pub mod RegisterParts
+pub mod Unabsorbed
+pub mod ClockNets
+pub mod SeenReads
+pub mod PinReads
+pub mod UnitReads
+pub mod PinUnitReads
+pub mod NodeReads
