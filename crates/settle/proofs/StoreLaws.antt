@@ -1,11 +1,16 @@
 -- Registers that are marked where they store another level than before.
-use Rattle.std.proofs.Common.{ℕ, ◌≡◌, ◌⊎◌, ◌<◌, ◌≤◌, ◌+◌, true, List, length, sym, ap, ◌∙◌, subst, arith, inl, inr}
-use Rattle.std.specs.Prelude.{slice_set}
+use Rattle.std.proofs.Common.{ℕ, ◌≡◌, ◌⊎◌, ◌<◌, ◌≤◌, ◌+◌, Bool, true, List, length, sym, ap, ◌∙◌, subst, arith, inl, inr}
+use Rattle.std.specs.Prelude.{slice_set, if◌then◌else◌}
 use Rattle.std.proofs.lemmas.Bool.{cases_eq}
 use Rattle.std.proofs.lemmas.List.{get_or-set_same, get_or-set_other}
 use Rattle.mig_base.specs.declared.levels.Level.{Level}
 use Rattle.mig_base.specs.declared.levels.Level.TheVariants.{X}
+use Rattle.mig_base.specs.declared.circuit.Register.{Register}
+use Rattle.mig_base.specs.declared.circuit.Circuit.{Circuit}
+use Rattle.mig_base.specs.declared.circuit.Levels.{Levels}
 use Rattle.mig_base.specs.Levels.{level_at}
+use Rattle.level_laws.specs.Runs.{rises, taken}
+use Rattle.settle.specs.Edges.{next_level}
 use Rattle.reader_lists.specs.declared.lists.Reader.{Reader}
 use Rattle.reader_lists.specs.declared.lists.Reader.TheVariants.{ByRegister}
 use Rattle.reader_lists.specs.declared.marks.Marks.{Marks}
@@ -35,3 +40,8 @@ stored-more start now new place level marks after lt put before marked here keep
     at : (j ≡ place) ⊎ (j ≡ place → ⊥) → (level_at start j ≡ level_at new j) ⊎ (marked_in after (ByRegister j) ≡ true)
     at (inl e) = subst (λ (k : ℕ). (level_at start k ≡ level_at new k) ⊎ (marked_in after (ByRegister k) ≡ true)) (sym e) (now-here here)
     at (inr ne) = other ne (marked j)
+
+-- what a register stores next, by the edge of its clock
+pub edge-level : (c : Circuit) (l : Levels) (before now : List Level) (r : Register) (b : Bool) (clock : ℕ) (x q : Level) → x ≡ (if b then taken l r else q) →
+    b ≡ rises c before now clock → clock ≡ r.clock → x ≡ next_level c l before now r q
+edge-level c l before now r b clock x q made up same = made ∙ ap (λ (e : Bool). if e then taken l r else q) (up ∙ ap (rises c before now) same)

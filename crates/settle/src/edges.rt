@@ -1,10 +1,9 @@
-ghost use Rattle.std.specs.Prelude.{ℕ, ◌≡◌, ◌⊎◌, ◌<◌, true, length, slice_set};
+ghost use Rattle.std.specs.Prelude.{ℕ, ◌≡◌, ◌⊎◌, ◌<◌, true, length, slice_set, if◌then◌else◌};
 ghost use Rattle.mig_base.specs.Levels.{level_at as level_in_place};
 ghost use Rattle.level_laws.specs.Runs.{clock_by as clock_from, clock_level as level_of_clock, rises as clock_rises, taken as level_taken, next_stored};
 ghost use Rattle.reader_lists.specs.declared.lists.Reader.{Reader as ReaderOf};
 ghost use Rattle.reader_lists.specs.declared.lists.Reader.TheVariants.{ByRegister as OfRegister};
 ghost use Rattle.reader_lists.specs.Marked.{marked_in};
-ghost use Rattle.settle.specs.Edges.{next_level as level_next};
 
 use crate::values::{inverted, level_at, row_value, same_level, sum_value};
 use mig_base::{Circuit, Items, Level, Levels, NetKind, Register, and3, not3, or3};
@@ -53,22 +52,33 @@ fn taken(levels: &Levels, register: &Register) -> Level
     and3(set, not3(row_value(levels, &register.reset)))
 }
 
-/// What a register with this visible Q stores next.
-fn next_level(
-    circuit: &Circuit,
-    levels: &Levels,
-    before: &[Level],
-    now: &[Level],
-    register: &Register,
-    seen: Level,
-) -> Level
-    ensures { result ≡ level_next circuit.now levels.now before.now now.now register.now seen }
+/// Whether a clock rises. Most registers that stand side by side have one clock, so the last answer is kept.
+#[derive(Clone, Copy)]
+struct Edge {
+    clock: u32,
+    rises: bool,
+}
+
+/// Whether a clock rises, where the answer for another one is at hand.
+fn edge_of(circuit: &Circuit, before: &[Level], now: &[Level], last: Edge, clock: u32) -> Edge
+    requires { last.rises ≡ clock_rises circuit.now before.now now.now last.clock }
+    ensures clock { result.clock ≡ clock }
+    ensures rises { result.rises ≡ clock_rises circuit.now before.now now.now result.clock }
 {
-    if rises(circuit, before, now, register.clock) {
-        taken(levels, register)
-    } else {
-        seen
+    if last.clock == clock {
+        return last;
     }
+    Edge {
+        clock,
+        rises: rises(circuit, before, now, clock),
+    }
+}
+
+/// What a register with this visible Q stores next.
+fn next_level(levels: &Levels, register: &Register, seen: Level, rises: bool) -> Level
+    ensures { result ≡ (if rises then level_taken levels.now register.now else seen) }
+{
+    if rises { taken(levels, register) } else { seen }
 }
 
 /// Puts a level in place of what a register stores, and marks the register where that changes.
@@ -100,8 +110,13 @@ pub(crate) fn store_next(
     ensures marked { (k : ℕ) → (level_in_place stored.old k ≡ level_in_place stored.new k) ⊎ (marked_in marks.new (OfRegister k) ≡ true) }
 {
     let seen = levels.visible.items();
+    let mut edge = Edge {
+        clock: 0,
+        rises: rises(circuit, before, now, 0),
+    };
     for (place, register) in circuit.registers.items().iter().enumerate() {
-        let level = next_level(circuit, levels, before, now, register, seen[place]);
+        edge = edge_of(circuit, before, now, edge, register.clock);
+        let level = next_level(levels, register, seen[place], edge.rises);
         store(stored, marks, place, level);
     }
 }
