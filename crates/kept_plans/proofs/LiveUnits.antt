@@ -4,6 +4,7 @@ use Rattle.std.specs.List.{slice_get}
 use Rattle.std.specs.Str.{bytes_eq}
 use Rattle.std.proofs.lemmas.List.{length-map}
 use Rattle.std.proofs.lemmas.Option.{same_Some, slice_get_within}
+use Rattle.mig_base.specs.First.{or_else}
 use Rattle.mig_base.specs.declared.circuit.Driver.{Driver}
 use Rattle.mig_base.specs.declared.nets.PinName.{PinName}
 use Rattle.mig_base.specs.declared.plans.Plan.{Plan}
@@ -18,7 +19,7 @@ use Rattle.mig_base.proofs.ListLaws.{item-at}
 use Rattle.structure.specs.Live.{IsLive}
 use Rattle.board.specs.Joined.{Joined, equations_of}
 use Rattle.board.specs.NodeNames.{unit_name}
-use Rattle.new_board.specs.NewChip.{NewChip, or_option, when}
+use Rattle.new_board.specs.NewChip.{NewChip, when}
 use Rattle.new_board.proofs.Items.{among-filter, among-filter_map}
 use Rattle.new_board.proofs.KeptNets.{get-places}
 use Rattle.plans.specs.FirstOf.{AreEach, Says}
@@ -48,14 +49,14 @@ listed-cases [] name e = cc
 listed-cases (Place unit chip pin ∷ ls) name e = at (same_pin unit name) refl e (listed-cases ls name)
   where
     at : (q : Bool) → same_pin unit name ≡ q → (q || is_listed ls name) ≡ true → (is_listed ls name ≡ true → (is_absorbed_in ls name ≡ true) ⊎ ((t : PinName) × (target_in ls name ≡ Some t))) →
-        (is_absorbed_in ls name ≡ true) ⊎ ((t : PinName) × (or_option (when (same_pin unit name) (Some (record { chip = chip; pin = pin }))) (target_in ls name) ≡ Some t))
-    at true is h rest = inr (record { chip = chip; pin = pin }, ap (λ (q : Bool). or_option (when q (Some (record { chip = chip; pin = pin }))) (target_in ls name)) is)
+        (is_absorbed_in ls name ≡ true) ⊎ ((t : PinName) × (or_else (when (same_pin unit name) (Some (record { chip = chip; pin = pin }))) (target_in ls name) ≡ Some t))
+    at true is h rest = inr (record { chip = chip; pin = pin }, ap (λ (q : Bool). or_else (when q (Some (record { chip = chip; pin = pin }))) (target_in ls name)) is)
     at false is h rest = by (rest h)
       where
         by : (is_absorbed_in ls name ≡ true) ⊎ ((t : PinName) × (target_in ls name ≡ Some t)) →
-            (is_absorbed_in ls name ≡ true) ⊎ ((t : PinName) × (or_option (when (same_pin unit name) (Some (record { chip = chip; pin = pin }))) (target_in ls name) ≡ Some t))
+            (is_absorbed_in ls name ≡ true) ⊎ ((t : PinName) × (or_else (when (same_pin unit name) (Some (record { chip = chip; pin = pin }))) (target_in ls name) ≡ Some t))
         by (inl g) = inl g
-        by (inr t) = inr (t.0, ap (λ (q : Bool). or_option (when q (Some (record { chip = chip; pin = pin }))) (target_in ls name)) is ∙ t.1)
+        by (inr t) = inr (t.0, ap (λ (q : Bool). or_else (when q (Some (record { chip = chip; pin = pin }))) (target_in ls name)) is ∙ t.1)
 listed-cases (Absorb unit ∷ ls) name e = at (same_pin unit name) refl e (listed-cases ls name)
   where
     at : (q : Bool) → same_pin unit name ≡ q → (q || is_listed ls name) ≡ true → (is_listed ls name ≡ true → (is_absorbed_in ls name ≡ true) ⊎ ((t : PinName) × (target_in ls name ≡ Some t))) →

@@ -56,7 +56,7 @@ place-found q (r ∷ rs) h = at (same_at q r) refl h (place-found q rs)
         next : place_of q rs + 1 ≡ suc (place_of q rs)
         next = omega arith
 
-pair-ordinary : (kind : Kind) (mode : Mode) (pin : ℕ) → Among pin (pair_pins kind mode) → Among pin (ordinary_pins kind)
+pub pair-ordinary : (kind : Kind) (mode : Mode) (pin : ℕ) → Among pin (pair_pins kind mode) → Among pin (ordinary_pins kind)
 pair-ordinary kind mode pin a = pin-among (ordinary_pins kind) pin (all-pass (is_among (ordinary_pins kind)) pin (pair_pins kind mode) (pairs-ordinary kind mode) a)
 
 -- twice the same sign

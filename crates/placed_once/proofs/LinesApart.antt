@@ -1,6 +1,7 @@
 -- A unit that a line absorbs isn't placed by one.
 use Rattle.std.proofs.Common.{◌≡◌, Bool, true, false, List, [], ◌∷◌, ◌++◌, Option, Some, None, refl, sym, ap, ◌∙◌, inl, inr}
 use Rattle.mig_base.specs.Among.{Among}
+use Rattle.mig_base.specs.First.{or_else}
 use Rattle.mig_base.specs.declared.nets.PinName.{PinName}
 use Rattle.mig_base.specs.declared.plans.Plan.{Plan}
 use Rattle.mig_base.specs.declared.plans.PlanLine.{PlanLine}
@@ -9,7 +10,7 @@ use Rattle.mig_base.specs.declared.plans.Breach.TheVariants as breach
 use Rattle.mig_base.proofs.Amongs.{among-any, any-among}
 use Rattle.mig_base.proofs.Distinct.{same-is, same-refl}
 use Rattle.board.specs.Joined.{Joined}
-use Rattle.new_board.specs.NewChip.{or_option, when}
+use Rattle.new_board.specs.NewChip.{when}
 use Rattle.plans.specs.FirstOf.{Says, behind}
 use Rattle.plans.specs.Placings.{absorbs, is_absorbed_in, is_listed, named_by, same_pin, target_by, target_in}
 use Rattle.plans.specs.LineBreaches.{unit_twice}
@@ -63,7 +64,7 @@ placing-line : (lines : List PlanLine) (name t : PinName) → target_in lines na
 placing-line [] name t e = cc
 placing-line (l ∷ ls) name t e = at (target_by name l) refl e (placing-line ls name t)
   where
-    at : (o : Option PinName) → target_by name l ≡ o → or_option o (target_in ls name) ≡ Some t → (target_in ls name ≡ Some t → HasLine ls name true) → HasLine (l ∷ ls) name true
+    at : (o : Option PinName) → target_by name l ≡ o → or_else o (target_in ls name) ≡ Some t → (target_in ls name ≡ Some t → HasLine ls name true) → HasLine (l ∷ ls) name true
     at None is k more = let rest = more k in (rest.0, inr rest.1, rest.2, rest.3)
     at (Some s) is k more = here l ls name s is
 

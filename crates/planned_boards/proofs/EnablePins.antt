@@ -2,6 +2,7 @@
 use Rattle.std.proofs.Common.{ℕ, ◌≡◌, Bool, true, false, ◌&&◌, List, Option, Some, None, refl, sym, ap, ◌∙◌, eqb, eq-eqb}
 use Rattle.std.specs.Prelude.{option_and_then}
 use Rattle.std.specs.List.{slice_get}
+use Rattle.mig_base.specs.First.{or_else}
 use Rattle.mig_base.specs.declared.kinds.Kind.{Kind}
 use Rattle.mig_base.specs.declared.kinds.Kind.TheVariants.{Gal16V8, Gal20V8}
 use Rattle.mig_base.specs.Boards.{net_of}
@@ -11,7 +12,7 @@ use Rattle.mig_base.proofs.Amongs.{among-any}
 use Rattle.board.specs.Joined.{Joined}
 use Rattle.read_nodes.proofs.Columns.{pin-among}
 use Rattle.new_board.specs.declared.types.PlacedUnit.{PlacedUnit}
-use Rattle.new_board.specs.NewChip.{NewChip, OldBoard, clock_net, enable_net, first_registered, or_option, unit_net, unit_on, when}
+use Rattle.new_board.specs.NewChip.{NewChip, OldBoard, clock_net, enable_net, first_registered, unit_net, unit_on, when}
 use Rattle.new_board.specs.InputPins.{input_at, input_pins, pin_net, wire_for}
 use Rattle.new_board.proofs.WellMade.{IsFitChip, on-unit}
 use Rattle.plans.specs.Placings.{old}
@@ -57,13 +58,13 @@ no-unit b chip fit v8 = at (unit_on chip.units (enable_pin chip.kind)) refl
 pub pin-net : (b : OldBoard) (chip : NewChip) → IsFitChip b chip → is_v8 chip.kind ≡ true → (first : PlacedUnit) → first_registered b.circuit chip ≡ Some first →
     (net : ℕ) → enable_net b first.enable ≡ Some net → pin_net b chip (enable_pin chip.kind) ≡ Some net
 pin-net b chip fit v8 first is net e =
-    ap (λ (o : Option PlacedUnit). or_option (or_option (option_and_then (λ (x : PlacedUnit). unit_net b x.unit) o) (or_option (clock (eqb pin (clock_pin chip.kind))) (enable (is_v8 chip.kind && eqb pin pin) (first_registered b.circuit chip)))) input)
+    ap (λ (o : Option PlacedUnit). or_else (or_else (option_and_then (λ (x : PlacedUnit). unit_net b x.unit) o) (or_else (clock (eqb pin (clock_pin chip.kind))) (enable (is_v8 chip.kind && eqb pin pin) (first_registered b.circuit chip)))) input)
     (no-unit b chip fit v8)
-    ∙ ap (λ (q : Bool). or_option (or_option (clock q) (enable (is_v8 chip.kind && eqb pin pin) (first_registered b.circuit chip))) input) (no-clock chip.kind v8)
-    ∙ ap (λ (q : Bool). or_option (enable (q && eqb pin pin) (first_registered b.circuit chip)) input) v8
-    ∙ ap (λ (q : Bool). or_option (enable q (first_registered b.circuit chip)) input) (eq-eqb pin pin refl)
-    ∙ ap (λ (o : Option PlacedUnit). or_option (enable true o) input) is
-    ∙ ap (λ (o : Option ℕ). or_option o input) e
+    ∙ ap (λ (q : Bool). or_else (or_else (clock q) (enable (is_v8 chip.kind && eqb pin pin) (first_registered b.circuit chip))) input) (no-clock chip.kind v8)
+    ∙ ap (λ (q : Bool). or_else (enable (q && eqb pin pin) (first_registered b.circuit chip)) input) v8
+    ∙ ap (λ (q : Bool). or_else (enable q (first_registered b.circuit chip)) input) (eq-eqb pin pin refl)
+    ∙ ap (λ (o : Option PlacedUnit). or_else (enable true o) input) is
+    ∙ ap (λ (o : Option ℕ). or_else o input) e
   where
     pin : ℕ
     pin = enable_pin chip.kind

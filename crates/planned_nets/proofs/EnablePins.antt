@@ -1,7 +1,9 @@
 -- The enable pin of a V8 stands on VCC where its registered units are never enabled.
+use Rattle.std.proofs.lemmas.Bool.{not-true}
 use Rattle.std.proofs.Common.{ℕ, ◌≡◌, Bool, true, false, not, ◌&&◌, ◌||◌, List, [], ◌∷◌, Option, Some, None, refl, sym, ap, ◌∙◌, eqb, eq-eqb, arith}
 use Rattle.std.specs.Prelude.{option_and_then}
 use Rattle.std.specs.List.{filter, slice_get}
+use Rattle.mig_base.specs.First.{or_else}
 use Rattle.mig_base.specs.declared.kinds.Kind.{Kind}
 use Rattle.mig_base.specs.declared.circuit.Gate.{Gate}
 use Rattle.mig_base.specs.declared.circuit.Gate.TheVariants.{Never, Product}
@@ -11,11 +13,10 @@ use Rattle.mig_base.specs.Cells.{is_among}
 use Rattle.mig_base.specs.DeviceTables.{cell_pins, clock_pin, enable_pin, is_22, is_gal, is_v8, ordinary_pins}
 use Rattle.mig_base.proofs.Amongs.{among-any}
 use Rattle.mig_base.proofs.KindFacts.{every-kind}
-use Rattle.mig_base.proofs.ListLaws.{not-true}
 use Rattle.board.specs.Joined.{Joined, equations_of}
 use Rattle.read_nodes.proofs.Columns.{enable-ordinary, pin-among}
 use Rattle.new_board.specs.declared.types.PlacedUnit.{PlacedUnit}
-use Rattle.new_board.specs.NewChip.{OldBoard, NewChip, clock_net, enable_net, first_of, first_registered, gate_products, is_registered_unit, or_option, unit_net, unit_on, when}
+use Rattle.new_board.specs.NewChip.{OldBoard, NewChip, clock_net, enable_net, first_of, first_registered, gate_products, is_registered_unit, unit_net, unit_on, when}
 use Rattle.new_board.specs.InputPins.{input_at, input_pins, pin_net, wire_for}
 use Rattle.new_board.proofs.Items.{among-filter}
 use Rattle.new_board.proofs.WellMade.{IsFitChip, on-unit}
@@ -64,10 +65,10 @@ module _ (b : OldBoard) (chip : NewChip) (fit : IsFitChip b chip) (v8 : is_v8 ch
       let input = option_and_then (wire_for b) (input_at (input_pins b chip) pin) in
       let enabled = λ (o : Option PlacedUnit). option_and_then (λ (x : PlacedUnit). enable_net b x.enable) o in
       let fixed = λ (o : Option PlacedUnit) (q r : Bool) (f : Option PlacedUnit).
-      or_option (or_option (option_and_then (λ (x : PlacedUnit). unit_net b x.unit) o) (or_option (when q (clock_net b.circuit chip)) (when (r && eqb pin pin) (enabled f)))) input in
+      or_else (or_else (option_and_then (λ (x : PlacedUnit). unit_net b x.unit) o) (or_else (when q (clock_net b.circuit chip)) (when (r && eqb pin pin) (enabled f)))) input in
       let own : eqb pin pin ≡ true = eq-eqb pin pin refl in
       (λ i. fixed (no-unit (unit_on chip.units pin) refl i) ((no-cell chip.kind v8).1 i) (v8 i) (is i))
-      ∙ ap (λ (q : Bool). or_option (when q (enable_net b first.enable)) input) own ∙ ap (λ (o : Option ℕ). or_option o input) e
+      ∙ ap (λ (q : Bool). or_else (when q (enable_net b first.enable)) input) own ∙ ap (λ (o : Option ℕ). or_else o input) e
 
 -- no row is shared with a first unit that has none
 pub shares-never : (g : Gate) → share_row [] (gate_products g) ≡ true → g ≡ Never

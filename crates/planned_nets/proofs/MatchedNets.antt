@@ -5,6 +5,7 @@ use Rattle.std.specs.List.{slice_get}
 use Rattle.std.specs.Option.{option_map}
 use Rattle.std.proofs.lemmas.List.{length-append}
 use Rattle.std.proofs.lemmas.Option.{same_Some}
+use Rattle.mig_base.specs.Structure.{has_no_driver}
 use Rattle.mig_base.specs.declared.nets.Net.{Net}
 use Rattle.mig_base.specs.declared.nets.Pull.{Pull}
 use Rattle.mig_base.specs.declared.nets.Pull.TheVariants.{Free}
@@ -18,7 +19,7 @@ use Rattle.mig_base.proofs.Amongs.{among-get}
 use Rattle.mig_base.proofs.ListLaws.{item-at}
 use Rattle.mig_base.proofs.PlaceLaws.{length-kinds_from}
 use Rattle.board.specs.Joined.{Joined, equations_of}
-use Rattle.new_board.specs.NewChip.{NewChip, has_no_driver, private_from}
+use Rattle.new_board.specs.NewChip.{NewChip, private_from}
 use Rattle.new_board.proofs.KeptNumbers.{old_kept}
 use Rattle.new_board.proofs.NewWiring.{kept_of}
 use Rattle.new_board.proofs.Wiring.{inner_kind, kinds-private}

@@ -4,6 +4,7 @@ use Rattle.std.specs.Prelude.{option_and_then}
 use Rattle.std.specs.List.{slice_get}
 use Rattle.std.specs.Option.{option_map}
 use Rattle.std.proofs.lemmas.Option.{slice_get-map}
+use Rattle.mig_base.specs.First.{or_else}
 use Rattle.mig_base.specs.declared.circuit.Gate.{Gate}
 use Rattle.mig_base.specs.declared.circuit.Gate.TheVariants.{Never, Product}
 use Rattle.mig_base.specs.Among.{Among}
@@ -12,7 +13,7 @@ use Rattle.mig_base.specs.DeviceTables.{clock_pin, enable_pin, is_v8}
 use Rattle.mig_base.proofs.Amongs.{among-get}
 use Rattle.board.specs.Joined.{Joined}
 use Rattle.new_board.specs.declared.types.PlacedUnit.{PlacedUnit}
-use Rattle.new_board.specs.NewChip.{OldBoard, NewChip, clock_net, enable_net, first_registered, or_option, unit_net, unit_net_of, unit_on, when}
+use Rattle.new_board.specs.NewChip.{OldBoard, NewChip, clock_net, enable_net, first_registered, unit_net, unit_net_of, unit_on, when}
 use Rattle.new_board.specs.InputPins.{input_at, input_pins, pin_net, wire_for}
 use Rattle.new_board.proofs.WellMade.{IsFitChip, on-unit}
 use Rattle.plans.specs.Placings.{old}
@@ -28,10 +29,10 @@ use Rattle.planned_nets.proofs.Wires.{IsDriver, unit-driver, unit-there}
 -- the pin of a unit stands on the unit's net
 pub unit-stands : (b : OldBoard) (chip : NewChip) (pin : ℕ) (x : PlacedUnit) (n : ℕ) → unit_on chip.units pin ≡ Some x → unit_net b x.unit ≡ Some n → pin_net b chip pin ≡ Some n
 unit-stands b chip pin x n e h =
-    let rest = or_option (when (eqb pin (clock_pin chip.kind)) (clock_net b.circuit chip))
+    let rest = or_else (when (eqb pin (clock_pin chip.kind)) (clock_net b.circuit chip))
     (when (is_v8 chip.kind && eqb pin (enable_pin chip.kind)) (option_and_then (λ (x : PlacedUnit). enable_net b x.enable) (first_registered b.circuit chip))) in
     let input = option_and_then (wire_for b) (input_at (input_pins b chip) pin) in
-    ap (λ (o : Option PlacedUnit). or_option (or_option (option_and_then (λ (x : PlacedUnit). unit_net b x.unit) o) rest) input) e ∙ ap (λ (o : Option ℕ). or_option (or_option o rest) input) h
+    ap (λ (o : Option PlacedUnit). or_else (or_else (option_and_then (λ (x : PlacedUnit). unit_net b x.unit) o) rest) input) e ∙ ap (λ (o : Option ℕ). or_else (or_else o rest) input) h
 
 module _ (b : Joined) (absorbed : List ℕ) (live : ℕ → Bool) (chips : List NewChip) (fit : (c : NewChip) → Among c chips → IsFitChip (old b) c) (planned : ArePlanned b absorbed live chips)
     (v : ℕ) (u : ChipUnit) (at : slice_get (new_units b chips) v ≡ Some u) where

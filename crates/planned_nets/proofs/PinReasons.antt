@@ -13,10 +13,10 @@ use Rattle.mig_base.specs.declared.circuit.Read.TheVariants.{OfNet, OfRegister}
 use Rattle.mig_base.specs.declared.circuit.Register.{Register}
 use Rattle.mig_base.specs.Among.{Among}
 use Rattle.mig_base.specs.DeviceTables.{clock_pin, enable_pin, is_v8}
-use Rattle.mig_base.specs.First.{made_from}
-use Rattle.mig_base.specs.Structure.{alias_of}
+use Rattle.mig_base.specs.First.{made_from, or_else}
+use Rattle.mig_base.specs.Structure.{alias_of, has_no_driver}
 use Rattle.new_board.specs.declared.types.PlacedUnit.{PlacedUnit}
-use Rattle.new_board.specs.NewChip.{OldBoard, NewChip, alias_net, can_stand, clock_net, enable_net, first_of, first_registered, fixed_net, has_no_driver, is_complement_of, is_register_of, net_literal, net_of_complement, or_option, placed_clock, placed_register, private_from, unit_net, unit_on, when}
+use Rattle.new_board.specs.NewChip.{OldBoard, NewChip, alias_net, can_stand, clock_net, enable_net, first_of, first_registered, fixed_net, is_complement_of, is_register_of, net_literal, net_of_complement, placed_clock, placed_register, private_from, unit_net, unit_on, when}
 use Rattle.new_board.specs.InputPins.{input_at, input_pins, pin_net, wire_for}
 use Rattle.new_board.proofs.Items.{among-unfilter}
 
@@ -36,7 +36,7 @@ pub record IsClock (b : OldBoard) (n : ℕ) : Type 0 where
 abbrev pub StandsBy : OldBoard → NewChip → ℕ → ℕ → Type 0
 StandsBy b chip pin n = HasUnit b chip pin n ⊎ (IsClock b n ⊎ (can_stand b n ≡ true))
 
-or-some : (o p : Option ℕ) (n : ℕ) → or_option o p ≡ Some n → (o ≡ Some n) ⊎ (p ≡ Some n)
+or-some : (o p : Option ℕ) (n : ℕ) → or_else o p ≡ Some n → (o ≡ Some n) ⊎ (p ≡ Some n)
 or-some None p n e = inr e
 or-some (Some m) p n e = inl e
 
@@ -113,13 +113,13 @@ module _ (b : OldBoard) where
       by-clock (inr h) = by-enable h
 
       by-unit : (option_and_then (λ (x : PlacedUnit). unit_net b x.unit) (unit_on chip.units pin) ≡ Some n)
-          ⊎ (or_option (when (eqb pin (clock_pin chip.kind)) (clock_net b.circuit chip)) (when (is_v8 chip.kind && eqb pin (enable_pin chip.kind)) enabled) ≡ Some n) → StandsBy b chip pin n
+          ⊎ (or_else (when (eqb pin (clock_pin chip.kind)) (clock_net b.circuit chip)) (when (is_v8 chip.kind && eqb pin (enable_pin chip.kind)) enabled) ≡ Some n) → StandsBy b chip pin n
       by-unit (inl h) = let x = then-some (λ (x : PlacedUnit). unit_net b x.unit) (unit_on chip.units pin) n h in inl (record { unit = x.0; on = x.1; net = x.2 })
       by-unit (inr h) = by-clock (or-some (when (eqb pin (clock_pin chip.kind)) (clock_net b.circuit chip)) (when (is_v8 chip.kind && eqb pin (enable_pin chip.kind)) enabled) n h)
 
-      at : (or_option (option_and_then (λ (x : PlacedUnit). unit_net b x.unit) (unit_on chip.units pin))
-          (or_option (when (eqb pin (clock_pin chip.kind)) (clock_net b.circuit chip)) (when (is_v8 chip.kind && eqb pin (enable_pin chip.kind)) enabled)) ≡ Some n)
+      at : (or_else (option_and_then (λ (x : PlacedUnit). unit_net b x.unit) (unit_on chip.units pin))
+          (or_else (when (eqb pin (clock_pin chip.kind)) (clock_net b.circuit chip)) (when (is_v8 chip.kind && eqb pin (enable_pin chip.kind)) enabled)) ≡ Some n)
           ⊎ (option_and_then (wire_for b) (input_at (input_pins b chip) pin) ≡ Some n) → StandsBy b chip pin n
       at (inl h) = by-unit (or-some (option_and_then (λ (x : PlacedUnit). unit_net b x.unit) (unit_on chip.units pin))
-          (or_option (when (eqb pin (clock_pin chip.kind)) (clock_net b.circuit chip)) (when (is_v8 chip.kind && eqb pin (enable_pin chip.kind)) enabled)) n h)
+          (or_else (when (eqb pin (clock_pin chip.kind)) (clock_net b.circuit chip)) (when (is_v8 chip.kind && eqb pin (enable_pin chip.kind)) enabled)) n h)
       at (inr h) = let v = then-some (wire_for b) (input_at (input_pins b chip) pin) n h in inr (inr (wire-stands v.0 n v.2))

@@ -2,7 +2,7 @@
 use Rattle.std.proofs.Common.{ℕ, zero, suc, ◌≡◌, ◌+◌, ◌≤◌, Bool, true, false, not, cond, List, [], ◌∷◌, map, Some, is_none, refl, sym, ap, ◌∙◌, subst, inl, inr, ◌⊎◌, eqb, eq-eqb, arith}
 use Rattle.std.specs.Prelude.{◌==◌}
 use Rattle.std.specs.List.{filter, list_any, slice_get}
-use Rattle.std.proofs.lemmas.Bool.{and_parts}
+use Rattle.std.proofs.lemmas.Bool.{and_parts, not-true}
 use Rattle.std.proofs.lemmas.Option.{same_Some}
 use Rattle.mig_base.specs.declared.nets.ChipLine.{ChipLine}
 use Rattle.mig_base.specs.declared.nets.Net.{Net}
@@ -12,7 +12,6 @@ use Rattle.mig_base.specs.DeviceTables.{ordinary_pins}
 use Rattle.mig_base.specs.WrittenBoard.{are_distinct}
 use Rattle.mig_base.proofs.Amongs.{among-any, among-filter, among-get, among-map, among-split, apart-append}
 use Rattle.mig_base.proofs.KindFacts.{ordinary-distinct}
-use Rattle.mig_base.proofs.ListLaws.{not-true}
 use Rattle.new_board.proofs.Wiring.{at-same, same-at}
 
 numbers-apart : (ns : List ℕ) → are_distinct (λ p q. p == q) ns ≡ true → IsApart ns

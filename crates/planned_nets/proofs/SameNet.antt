@@ -3,6 +3,7 @@ use Rattle.std.proofs.Common.{ℕ, ◌≡◌, ◌+◌, ◌<◌, ◌≤◌, Bool,
 use Rattle.std.specs.Prelude.{option_and_then}
 use Rattle.std.specs.List.{slice_get}
 use Rattle.std.proofs.lemmas.Option.{same_Some}
+use Rattle.mig_base.specs.Structure.{has_no_driver}
 use Rattle.mig_base.specs.declared.circuit.Wire.{Wire}
 use Rattle.mig_base.specs.Accepted.{IsAccepted, is_fixed}
 use Rattle.mig_base.specs.Among.{Among}
@@ -12,7 +13,7 @@ use Rattle.mig_base.specs.Given.{IsGiven}
 use Rattle.mig_base.proofs.Amongs.{among-get}
 use Rattle.board.specs.Joined.{Joined, equations_of}
 use Rattle.new_board.specs.declared.types.PlacedUnit.{PlacedUnit}
-use Rattle.new_board.specs.NewChip.{NewChip, can_stand, has_no_driver, private_from, unit_net_of}
+use Rattle.new_board.specs.NewChip.{NewChip, can_stand, private_from, unit_net_of}
 use Rattle.new_board.specs.InputPins.{pin_net}
 use Rattle.new_board.proofs.KeptNumbers.{old_kept}
 use Rattle.new_board.proofs.NewWiring.{kept_of}

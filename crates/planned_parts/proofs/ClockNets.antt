@@ -4,6 +4,7 @@ use Rattle.std.specs.Prelude.{option_and_then}
 use Rattle.std.specs.List.{slice_get}
 use Rattle.std.specs.Option.{option_map}
 use Rattle.std.proofs.lemmas.Option.{same_Some, slice_get-map}
+use Rattle.mig_base.specs.First.{or_else}
 use Rattle.mig_base.specs.declared.kinds.Kind.{Kind}
 use Rattle.mig_base.specs.declared.circuit.Register.{Register}
 use Rattle.mig_base.specs.declared.circuit.NetKind.{NetKind}
@@ -18,7 +19,7 @@ use Rattle.mig_base.proofs.KindFacts.{every-kind}
 use Rattle.board.specs.Joined.{Joined, equations_of}
 use Rattle.read_nodes.proofs.Columns.{pin-among}
 use Rattle.new_board.specs.declared.types.PlacedUnit.{PlacedUnit}
-use Rattle.new_board.specs.NewChip.{NewChip, OldBoard, clock_net, enable_net, first_registered, or_option, placed_clock, unit_net, unit_on, when}
+use Rattle.new_board.specs.NewChip.{NewChip, OldBoard, clock_net, enable_net, first_registered, placed_clock, unit_net, unit_on, when}
 use Rattle.new_board.specs.InputPins.{input_at, input_pins, pin_net, wire_for}
 use Rattle.new_board.proofs.WellMade.{IsFitChip, on-unit}
 use Rattle.plans.specs.Placings.{old}
@@ -55,8 +56,8 @@ no-unit b chip fit = at (unit_on chip.units 1) refl
 -- the clock pin stands on the clock net
 clock-pin : (b : OldBoard) (chip : NewChip) → IsFitChip b chip → (net : ℕ) → clock_net b.circuit chip ≡ Some net → pin_net b chip 1 ≡ Some net
 clock-pin b chip fit net e =
-    ap (λ (o : Option PlacedUnit). or_option (or_option (option_and_then (λ (x : PlacedUnit). unit_net b x.unit) o) (or_option (clock_net b.circuit chip) enable)) input) (no-unit b chip fit)
-    ∙ ap (λ (o : Option ℕ). or_option (or_option o enable) input) e
+    ap (λ (o : Option PlacedUnit). or_else (or_else (option_and_then (λ (x : PlacedUnit). unit_net b x.unit) o) (or_else (clock_net b.circuit chip) enable)) input) (no-unit b chip fit)
+    ∙ ap (λ (o : Option ℕ). or_else (or_else o enable) input) e
   where
     input : Option ℕ
     input = option_and_then (wire_for b) (input_at (input_pins b chip) 1)

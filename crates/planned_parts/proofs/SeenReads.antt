@@ -1,13 +1,7 @@
 -- What a row of a new chip reads on the new board is a register, or a net that stands for an old one.
 use Rattle.std.proofs.Common.{true, ℕ, ◌≡◌, ◌⊎◌, false, cond, List, [], ◌∷◌, map, Option, Some, None, is_some, refl, sym, ap, ◌∙◌, subst, inl, inr}
-use Rattle.std.specs.List.{list_all, slice_get}
+use Rattle.std.specs.List.{slice_get}
 use Rattle.std.proofs.lemmas.Option.{same_Some}
-use Rattle.mig_base.specs.Cells.{is_among}
-use Rattle.mig_base.specs.DeviceTables.{ordinary_pins, pair_pins}
-use Rattle.mig_base.specs.declared.kinds.Kind.{Kind}
-use Rattle.mig_base.specs.declared.kinds.Mode.{Mode}
-use Rattle.mig_base.specs.declared.kinds.Mode.TheVariants.{Simple, Complex, Registered, Fixed}
-use Rattle.mig_base.proofs.KindFacts.{every-kind}
 use Rattle.mig_base.specs.declared.cells.Lit.{Lit}
 use Rattle.mig_base.specs.declared.cells.Source.{Source}
 use Rattle.mig_base.specs.declared.cells.Source.TheVariants.{Pin, Reg}
@@ -34,19 +28,8 @@ use Rattle.plans.specs.Forms.{Products, is_absorbed_read}
 use Rattle.carried_boards.specs.Carries.{variable_at}
 use Rattle.placed_boards.specs.Places.{IsSeen}
 use Rattle.new_circuits.specs.NewNumbers.{is_seen, new_literals, new_units, new_wiring}
-use Rattle.placed_boards.proofs.RowParts.{all-pass}
-use Rattle.read_nodes.proofs.Columns.{pin-among}
+use Rattle.new_circuits.proofs.SeenRows.{pair-ordinary}
 use Rattle.planned_parts.proofs.Unabsorbed.{net-stays, pin-seen}
-
--- the pins of column pairs are no power pins
-pairs-ordinary : (kind : Kind) (mode : Mode) → list_all (is_among (ordinary_pins kind)) (pair_pins kind mode) ≡ true
-pairs-ordinary kind Simple = every-kind (λ (k : Kind). list_all (is_among (ordinary_pins k)) (pair_pins k Simple)) refl kind
-pairs-ordinary kind Complex = every-kind (λ (k : Kind). list_all (is_among (ordinary_pins k)) (pair_pins k Complex)) refl kind
-pairs-ordinary kind Registered = every-kind (λ (k : Kind). list_all (is_among (ordinary_pins k)) (pair_pins k Registered)) refl kind
-pairs-ordinary kind Fixed = every-kind (λ (k : Kind). list_all (is_among (ordinary_pins k)) (pair_pins k Fixed)) refl kind
-
-pair-ordinary : (kind : Kind) (mode : Mode) (pin : ℕ) → Among pin (pair_pins kind mode) → Among pin (ordinary_pins kind)
-pair-ordinary kind mode pin a = pin-among (ordinary_pins kind) pin (all-pass (is_among (ordinary_pins kind)) pin (pair_pins kind mode) (pairs-ordinary kind mode) a)
 
 module _ (b : Joined) (absorbed : List ℕ) (absorbable : AreAbsorbable b absorbed) (chips : List NewChip) (j : ℕ) (chip : NewChip) (found : slice_get chips j ≡ Some chip) where
   abbrev a : Circuit
