@@ -8,7 +8,7 @@ use Rattle.mig_base.specs.Boards.{is_port}
 use Rattle.mig_base.specs.Given.{IsGiven}
 use Rattle.structure.specs.Live.{IsLiveness}
 use Rattle.board.specs.Joined.{Joined, equations_of}
-use Rattle.level_laws.specs.SameBehaviour.{ShowsAlike}
+use Rattle.level_laws.specs.SameBehaviour.{IsSame, ShowsAlike}
 use Rattle.level_laws.proofs.FollowsSame.{follows-same}
 use Rattle.level_laws.proofs.OrderRanks.{HasRanks}
 use Rattle.level_laws.proofs.RanksExist.{accepted-ranks}
@@ -29,6 +29,7 @@ use Rattle.carried_matchings.proofs.Proving.{carries-proving, classes-count}
 use Rattle.placed_boards.specs.Places.{kept_of}
 use Rattle.placed_boards.proofs.Placing.{places-carries}
 use Rattle.live_sets.proofs.Rounds.{has-liveness}
+use Rattle.rebuilt_boards.proofs.SameBoards.{same-boards}
 use Rattle.wired_boards.proofs.ApartUnits.{given-wired}
 use Rattle.new_circuits.specs.NewNumbers.{is_seen, numbers_of}
 use Rattle.planned_parts.proofs.Owners.{owner}
@@ -76,6 +77,9 @@ module _ (b : Joined) (p : Plan) (chips : List NewChip) (given : IsGiven b.net b
 
   same-ports : filter is_port b.net.nets ≡ filter is_port (new_board b chips).net.nets
   same-ports = ports-same (old b) chips
+
+  pub shows-same : IsSame b.net b.chips (new_board b chips).net (new_board b chips).chips
+  shows-same = same-boards b.net b.chips (new_board b chips).net (new_board b chips).chips same-ports shows-alike
 
   pub proving-matching : (classes : List ℕ) × (length classes ≡ registers_of_both b (new_board b chips)) × IsProving b (new_board b chips) classes
   proving-matching = (
