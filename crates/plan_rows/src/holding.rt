@@ -1,4 +1,5 @@
 ghost use Rattle.std.specs.Prelude.{IfErr};
+ghost use Rattle.breach_names.specs.NamedVariables.{NamesVariable};
 ghost use Rattle.plan_rows.specs.Answers.{NamesOwn};
 
 use crate::breaches::write_breach;
@@ -8,10 +9,35 @@ use crate::loads::{load_board, load_plan};
 use board::Board;
 use breach_names::breaches_name_variables;
 use fit::{FitError, Fitted, check_plan};
-use mig_base::Plan;
+use mig_base::{Breach, Plan};
 use std::alloc::Global;
 
-/// What is printed of the check of a plan: of its chips only where they are wanted.
+/// What is printed of a plan that has no breach: its chips only where they are wanted.
+fn told_chips(
+    alloc: Global,
+    board: &Board,
+    fitted: &Fitted,
+    wants_chips: bool,
+) -> Result<String, Fault> {
+    let mut text = String::new(alloc);
+    if wants_chips {
+        write_chips(alloc, &mut text, board.net(), fitted.chips.items())?;
+    } else {
+        text.push_str("none\n")?;
+    }
+    Ok(text)
+}
+
+/// What is printed of a breach.
+fn told_breach(alloc: Global, board: &Board, breach: Breach) -> Result<String, Fault>
+    requires { NamesVariable board.now breach }
+{
+    let mut text = String::new(alloc);
+    write_breach(&mut text, board, breach)?;
+    Ok(text)
+}
+
+/// What is printed of the check of a plan.
 fn told(
     alloc: Global,
     board: &Board,
@@ -20,16 +46,11 @@ fn told(
 ) -> Result<String, Fault>
     requires { IfErr checked (NamesOwn board.now) }
 {
-    let mut text = String::new(alloc);
     match checked {
-        Ok(fitted) if wants_chips => {
-            write_chips(alloc, &mut text, board.net(), fitted.chips.items())?;
-        }
-        Ok(_) => text.push_str("none\n")?,
-        Err(FitError::Breach(breach)) => write_breach(&mut text, board, breach)?,
-        Err(FitError::Memory) => return Err(Fault::Memory),
+        Ok(fitted) => told_chips(alloc, board, &fitted, wants_chips),
+        Err(FitError::Breach(breach)) => told_breach(alloc, board, breach),
+        Err(FitError::Memory) => Err(Fault::Memory),
     }
-    Ok(text)
 }
 
 /// What is printed of a plan for a board.
