@@ -5,13 +5,12 @@ use Rattle.mig_base.specs.declared.circuit.Gate.{Gate}
 use Rattle.mig_base.specs.declared.circuit.Gate.TheVariants.{Never, Product}
 use Rattle.mig_base.specs.declared.plans.Plan.{Plan}
 use Rattle.mig_base.specs.declared.plans.PlanChip.{PlanChip}
-use Rattle.mig_base.specs.declared.plans.Part.TheVariants.{Enable, Reset}
 use Rattle.mig_base.specs.declared.plans.Breach.TheVariants as breach
 use Rattle.mig_base.specs.Among.{Among}
 use Rattle.mig_base.specs.DeviceTables.{is_22, is_v8}
 use Rattle.board.specs.Joined.{Joined, equations_of}
 use Rattle.new_board.specs.declared.types.PlacedUnit.{PlacedUnit}
-use Rattle.new_board.specs.NewChip.{first_registered, gate_products}
+use Rattle.new_board.specs.NewChip.{gate_products}
 use Rattle.new_board.specs.NewFiles.{pin_low_of}
 use Rattle.plans.specs.FirstOf.{NoneOf, Says}
 use Rattle.plans.specs.declared.placing.Placing.{Placing}
