@@ -8,7 +8,7 @@
 //! | `fit BOARD PLAN` | the new chips, each with its name, the listing of its cells and its wired pins; or the breach |
 //!
 //! BOARD stands for the file `BOARD.net` and a file `BOARD.CHIP.jed` for each chip, PLAN for the file `PLAN.plan`. Empty lines and
-//! lines that begin with `#` are printed alone. A line that can't be carried out is an error, and then the status is 1.
+//! lines that begin with `#` are printed alone. The run ends at a line that can't be carried out, and then the status is 1.
 #![tactic(auto)]
 
 mod breaches;
