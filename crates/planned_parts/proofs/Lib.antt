@@ -9,4 +9,5 @@ pub mod SeenReads
 pub mod PinReads
 pub mod UnitReads
 pub mod PinUnitReads
+pub mod UnitSees
 pub mod NodeReads

@@ -1,44 +1,33 @@
--- What the nodes of the new board read: registers, and nets that stand for old ones.
-use Rattle.std.proofs.Common.{ℕ, ◌≡◌, ◌⊎◌, Bool, true, false, List, [], ◌∷◌, ◌++◌, Option, Some, None, refl, sym, ap, ◌∙◌, subst, inl, inr}
+-- What the nodes of the new board read, and its registers at an edge: registers, and nets that stand for old ones.
+use Rattle.std.proofs.Common.{ℕ, ◌≡◌, ◌⊎◌, List, [], ◌∷◌, ◌++◌, Option, Some, None, refl, sym, ◌∙◌, subst, inl, inr}
 use Rattle.std.specs.List.{flat_map, slice_get}
 use Rattle.std.specs.Option.{option_map}
 use Rattle.std.proofs.lemmas.Option.{same_Some, slice_get-map}
 use Rattle.mig_base.specs.declared.circuit.Read.{Read}
 use Rattle.mig_base.specs.declared.circuit.Read.TheVariants.{OfNet, OfRegister}
-use Rattle.mig_base.specs.declared.circuit.Gate.{Gate}
-use Rattle.mig_base.specs.declared.circuit.Gate.TheVariants.{Never, Product}
-use Rattle.mig_base.specs.declared.circuit.Driver.{Driver}
 use Rattle.mig_base.specs.declared.circuit.Register.{Register}
 use Rattle.mig_base.specs.declared.circuit.Wire.{Wire}
 use Rattle.mig_base.specs.declared.circuit.Circuit.{Circuit}
 use Rattle.mig_base.specs.Among.{Among}
-use Rattle.mig_base.specs.Boards.{ChipUnit, driver_of, is_unit, register_of, registers_of}
-use Rattle.mig_base.specs.DeviceTables.{is_22}
+use Rattle.mig_base.specs.Boards.{ChipUnit, register_of, registers_of}
 use Rattle.mig_base.specs.Reads.{IsNode, driver_reads, edge_reads, node_reads, reads_of_register, reads_of_wire}
 use Rattle.mig_base.specs.Values.{row_reads, sum_reads}
 use Rattle.mig_base.proofs.Amongs.{among-all, among-right, among-split}
 use Rattle.board.specs.Joined.{Joined, equations_of}
-use Rattle.read_nodes.proofs.GivenNodes.{given-nodes}
-use Rattle.new_board.specs.NewChip.{NewChip, gate_products, placed_register}
-use Rattle.new_board.specs.NewFiles.{new_comb}
-use Rattle.new_board.proofs.WellMade.{IsFitChip}
+use Rattle.new_board.specs.NewChip.{NewChip, gate_products}
 use Rattle.plans.specs.Placings.{old}
 use Rattle.plans.specs.Fitting.{new_board}
 use Rattle.plans.specs.Forms.{Products}
 use Rattle.placed_boards.specs.Places.{IsSeen}
-use Rattle.new_circuits.specs.NewNumbers.{IsNewUnit, is_seen, new_units, new_wiring}
-use Rattle.new_circuits.proofs.NewUnits.{new-unit}
-use Rattle.planned_boards.specs.Planned.{HasPartRows}
-use Rattle.planned_boards.proofs.CombUnits as comb
+use Rattle.new_circuits.specs.NewNumbers.{is_seen, new_units, new_wiring}
 use Rattle.planned_parts.specs.KeptChips.{AreKeptChips, ReadsStaying}
 use Rattle.planned_parts.proofs.NewRegisters.{IsNewRegister, of-chip-unit}
-use Rattle.planned_parts.proofs.PinUnitReads.{first-on, reads-on-v8}
+use Rattle.planned_parts.proofs.PinUnitReads.{first-on}
 use Rattle.planned_parts.proofs.RegisterParts.{preset-readable, reset-readable, term-readable}
 use Rattle.planned_parts.proofs.RegisterRows.{edge-nodes, made, stands-there}
 use Rattle.planned_parts.proofs.SeenReads.{AreSeenRows, row-sees, sum-sees}
 use Rattle.planned_parts.proofs.Unabsorbed.{literal-stays}
-use Rattle.planned_parts.proofs.UnitReads.{comb-reads, reads-on-22}
-use Rattle.planned_parts.proofs.Units.{kept-chip, on-its-chip, v8-kind}
+use Rattle.planned_parts.proofs.UnitSees.{driver-sees}
 
 module _ (b : Joined) (absorbed : List ℕ) (chips : List NewChip) (kept : AreKeptChips b absorbed chips) where
   abbrev a : Circuit
@@ -49,45 +38,6 @@ module _ (b : Joined) (absorbed : List ℕ) (chips : List NewChip) (kept : AreKe
 
   abbrev Sees : Read → Type 0
   Sees w = IsSeen new (is_seen b absorbed chips) w
-
-  module _ (v : ℕ) (u : ChipUnit) (at : slice_get (new_units b chips) v ≡ Some u) (n : IsNewUnit b chips u) where
-    abbrev driver : Driver
-    driver = driver_of (new_wiring b chips) (new_units b chips) u
-
-    abbrev fit : IsFitChip (old b) n.chip
-    fit = (kept-chip b absorbed chips kept v u at n).fit
-
-    abbrev rows : HasPartRows b absorbed n.unit
-    rows = (kept-chip b absorbed chips kept v u at n).planned.units n.unit (on-its-chip b absorbed chips kept v u at n)
-
-    unit-reads : (w : Read) → Among w (driver_reads (Some driver)) → IsNode new w → Sees w
-    unit-reads w m node = by (placed_register a n.unit) refl
-      where
-        gated : placed_register a n.unit ≡ None → (g : Gate) → n.unit.enable ≡ g → Sees w
-        gated none Never e =
-            let idle_cell = comb.comb-cell b absorbed chips kept.given v u at n fit rows none ∙ ap (new_comb (old b) n.chip u.cell.pin n.unit) e in
-            let wrong : true ≡ false = sym n.stands ∙ ap (is_unit u.cells) idle_cell in
-            cc
-        gated none (Product lits) e = comb-reads b absorbed chips kept v u at n none lits e w m node
-
-        kinded : (k : ℕ) → placed_register a n.unit ≡ Some k → (q : Bool) → is_22 n.chip.kind ≡ q → Sees w
-        kinded k is true e = reads-on-22 b absorbed chips kept v u at n k is e w m node
-        kinded k is false e = reads-on-v8 b absorbed chips kept v u at n k is (v8-kind n.chip.kind fit.gal e) w m node
-
-        by : (o : Option ℕ) → placed_register a n.unit ≡ o → Sees w
-        by None none = gated none n.unit.enable refl
-        by (Some k) is = kinded k is (is_22 n.chip.kind) refl
-
-  -- what a unit reads
-  pub driver-sees : (v : ℕ) (w : Read) → Among w (driver_reads (slice_get new.units v)) → Sees w
-  driver-sees v w m = at (slice_get (new_units b chips) v) refl (subst (λ (o : Option Driver). Among w (driver_reads o)) (slice_get-map (driver_of (new_wiring b chips) (new_units b chips)) (new_units b chips) v) m)
-    where
-      node : IsNode new w
-      node = among-all (IsNode new) w (driver_reads (slice_get new.units v)) ((given-nodes (new_board b chips).net (new_board b chips).chips kept.given).units v) m
-
-      at : (o : Option ChipUnit) → slice_get (new_units b chips) v ≡ o → Among w (driver_reads (option_map (driver_of (new_wiring b chips) (new_units b chips)) o)) → Sees w
-      at None is h = absurd h
-      at (Some u) is h = unit-reads v u is (new-unit b chips v u is) w h node
 
   -- what a register reads at an edge
   module _ (k : ℕ) (r : IsNewRegister b absorbed chips k) where
@@ -151,7 +101,7 @@ module _ (b : Joined) (absorbed : List ℕ) (chips : List NewChip) (kept : AreKe
         where
           of_first : Among w (driver_reads (slice_get new.units u)) ⊎ Among w (flat_map (λ (x : ℕ). driver_reads (slice_get new.units x)) us) →
               (Among w (flat_map (λ (x : ℕ). driver_reads (slice_get new.units x)) us) → Sees w) → Sees w
-          of_first (inl g) rest = driver-sees u w g
+          of_first (inl g) rest = driver-sees b absorbed chips kept u w g
           of_first (inr g) rest = rest g
 
       at : (o : Option Wire) → Among w (reads_of_wire new o) → Sees w
