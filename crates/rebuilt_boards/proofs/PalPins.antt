@@ -71,7 +71,7 @@ fixed-unregistered b chip pin none first =
     ∙ ap (λ (o : Option PlacedUnit). or_else (when (eqb pin 1) (clocked o)) (when (is_v8 chip.kind && eqb pin (enable_pin chip.kind)) (enabled o))) first
     ∙ at (eqb pin 1) (is_v8 chip.kind && eqb pin (enable_pin chip.kind))
   where
-    at : (p q : Bool) → or_else {T = ℕ} (when p None) (when q None) ≡ None
+    at : (p q : Bool) → or_else {E = ℕ} (when p None) (when q None) ≡ None
     at true true = refl
     at true false = refl
     at false true = refl
