@@ -1,5 +1,5 @@
 -- The new board of a plan without breach carries the old one.
-use Rattle.std.proofs.Common.{ℕ, ◌≡◌, Bool, true, false, List, filter, length}
+use Rattle.std.proofs.Common.{ℕ, ◌≡◌, Bool, false, List, filter, length}
 use Rattle.std.specs.List.{slice_index_or}
 use Rattle.mig_base.specs.declared.circuit.Circuit.{Circuit}
 use Rattle.mig_base.specs.declared.plans.Plan.{Plan}

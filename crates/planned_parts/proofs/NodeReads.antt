@@ -15,7 +15,6 @@ use Rattle.mig_base.specs.Values.{row_reads, sum_reads}
 use Rattle.mig_base.proofs.Amongs.{among-all, among-right, among-split}
 use Rattle.board.specs.Joined.{Joined, equations_of}
 use Rattle.new_board.specs.NewChip.{NewChip, gate_products}
-use Rattle.plans.specs.Placings.{old}
 use Rattle.plans.specs.Fitting.{new_board}
 use Rattle.plans.specs.Forms.{Products}
 use Rattle.placed_boards.specs.Places.{IsSeen}
