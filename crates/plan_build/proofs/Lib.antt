@@ -1,0 +1,2 @@
+pub mod PlanBuilt
+pub mod BuiltTexts
