@@ -17,6 +17,7 @@ use Rattle.mig_base.specs.WrittenPlan.{written_plan}
 use Rattle.mig_base.specs.WrittenFuses.{written_fuses}
 use Rattle.new_board.specs.declared.types.FittedChip.{FittedChip}
 use Rattle.new_board.specs.Files.{NewFile, fuse_file, file_under, last_files, files_of}
+use Rattle.new_board.specs.NewFiles.{new_net}
 use Rattle.new_board.specs.OneForOne.{one_for_one}
 use Rattle.rebuilt_boards.specs.RebuiltBoards.{IsBuiltWell, built_chips}
 use Rattle.answers.specs.declared.exit.Exit.{Exit}
@@ -44,7 +45,8 @@ read-as-many parts r = made-long parts.net.chips parts.chips r.chips
 built-of : (parts : Joined) → IsReadBoard parts → is_taken_board parts ≡ true → IsBuiltWell parts.net parts.chips
 built-of parts r form = built-well parts.net parts.chips (read-writable parts.net r.wiring) (taken-board parts r form)
 
-writable-from : (fs : List FittedChip) → AllByRecursion (λ f. f.cells.kind ≡ Gal16V8) fs → AllByRecursion (λ f. IsWellFormed f.cells) fs → AllByRecursion IsWritableChip fs
+-- GAL16V8 chips with cells that some fuses make
+pub writable-from : (fs : List FittedChip) → AllByRecursion (λ f. f.cells.kind ≡ Gal16V8) fs → AllByRecursion (λ f. IsWellFormed f.cells) fs → AllByRecursion IsWritableChip fs
 writable-from [] k w = tt
 writable-from (f ∷ fs) k w = (record { kind = ap is_gal k.0; cells = w.0 }, writable-from fs k.1 w.1)
 
@@ -62,10 +64,10 @@ spread : (stem : List ℕ) (fs : List FittedChip) (rest : List NewFile) → map 
 spread stem [] rest = refl
 spread stem (f ∷ fs) rest = ap (λ (q : List File). chip_file stem f ∷ q) (spread stem fs rest)
 
--- the saved files one by one
-pub saved-spread : (stem : List ℕ) (parts : Joined) → saved_files stem parts
-    ≡ map (chip_file stem) (new_chips parts) ++ (plan_file stem, written_plan (one_for_one parts.net parts.chips)) ∷ (net_file stem, written_net (new_wiring parts)) ∷ []
-saved-spread stem parts = spread stem (new_chips parts) (last_files (one_for_one parts.net parts.chips) (new_wiring parts))
+-- the files of new chips one by one
+pub files-spread : (stem : List ℕ) (net : Net) (p : Plan) (chips : List FittedChip) → map (file_under stem) (files_of net p chips)
+    ≡ map (chip_file stem) chips ++ (plan_file stem, written_plan p) ∷ (net_file stem, written_net (new_net net chips)) ∷ []
+files-spread stem net p chips = spread stem chips (last_files p (new_net net chips))
 
 -- what is saved and reported is what should be
 pub outcome-made : (stem : List ℕ) (parts : Joined) (chips : List FittedChip) (plan : Plan) (net : Net) (files : List NewFile) (saves : List File) (report : List ℕ) (lines : List ChipLine) (counted : List FittedChip) →

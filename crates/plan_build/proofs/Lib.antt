@@ -1,2 +1,1 @@
-pub mod PlanBuilt
 pub mod BuiltTexts

@@ -1,8 +1,6 @@
-//! What a plan without breach builds: the texts of its files, and that its board shows what the old one shows.
+//! What a plan without breach builds: the texts of its files, and the definition of what its board keeps.
 #![tactic(auto)]
 
-mod laws;
 mod texts;
 
-pub use laws::plans_are_built;
 pub use texts::build;

@@ -1,4 +1,5 @@
-ghost use Rattle.std.specs.Prelude.{◌≡◌, ℕ, List, Option, Some, IfOk, MatchResult};
+ghost use Rattle.std.specs.Prelude.{◌≡◌, ℕ, List, Option, Some, IfOk, IfErr, MatchResult};
+ghost use Rattle.fit.specs.Answers.{RefusesPlan};
 ghost use Rattle.breach_names.specs.NamedVariables.{NamesVariable};
 ghost use Rattle.plan_text.specs.PlanText.{IsPlan};
 ghost use Rattle.plans.specs.Breaches.{HasNoBreach};
@@ -45,13 +46,13 @@ fn refused(alloc: Global, board: &Board, breach: Breach) -> Result<Prepared, Exi
 }
 
 /// A plan without breach: its files, and the numbers of chips.
-fn built(alloc: Global, new: &Stem, board: &Board, fitted: &Fitted) -> Result<Prepared, Exit>
-    requires plan { IsPlan fitted.now.plan }
-    requires free { HasNoBreach board.now fitted.now.plan }
-    requires chips { AreFitted board.now fitted.now.plan fitted.now.chips }
-    ensures { MatchResult result (λ p. outcome_in p ≡ built_by new.now board.now fitted.now.plan fitted.now.chips) (λ e. e ≡ Exit.Memory) }
+fn built(alloc: Global, new: &Stem, board: &Board, fitted: Fitted) -> Result<Prepared, Exit>
+    requires plan { IsPlan fitted.plan }
+    requires free { HasNoBreach board.now fitted.plan }
+    requires chips { AreFitted board.now fitted.plan fitted.chips }
+    ensures { MatchResult result (λ p. outcome_in p ≡ built_by new.now board.now fitted.plan fitted.chips) (λ e. e ≡ Exit.Memory) }
 {
-    let files = build(alloc, board, fitted)?;
+    let files = build(alloc, board, &fitted)?;
     let saves = new_files(alloc, new, files)?;
     let old_count = board.net().chips.items().len();
     let report = done_report(alloc, old_count, fitted.chips.items().len())?;
@@ -62,16 +63,35 @@ fn built(alloc: Global, new: &Stem, board: &Board, fitted: &Fitted) -> Result<Pr
     })
 }
 
+/// What a plan comes to that was held against the rules.
+fn judged(
+    alloc: Global,
+    new: &Stem,
+    board: &Board,
+    plan: &Plan,
+    checked: Result<Fitted, FitError>,
+) -> Result<Prepared, Exit>
+    requires read { IsPlan plan.now }
+    requires free { IfOk checked (λ fitted. HasNoBreach board.now plan.now) }
+    requires chips { IfOk checked (λ fitted. AreFitted board.now plan.now fitted.chips) }
+    requires plan { IfOk checked (λ fitted. fitted.plan ≡ plan.now) }
+    requires refused { IfErr checked (RefusesPlan board.now plan.now) }
+    ensures { Finds outcome_in (PlansTo new.now board.now plan.now) result }
+{
+    match checked {
+        Ok(fitted) => built(alloc, new, board, fitted),
+        Err(FitError::Breach(breach)) => refused(alloc, board, breach),
+        Err(FitError::Memory) => Err(Exit::Memory),
+    }
+}
+
 /// What a plan comes to: its breach, or its files.
 fn planned(alloc: Global, new: &Stem, board: &Board, plan: &Plan) -> Result<Prepared, Exit>
     requires { IsPlan plan.now }
     ensures { Finds outcome_in (PlansTo new.now board.now plan.now) result }
 {
-    match check_plan(alloc, board, plan) {
-        Ok(fitted) => built(alloc, new, board, &fitted),
-        Err(FitError::Breach(breach)) => refused(alloc, board, breach),
-        Err(FitError::Memory) => Err(Exit::Memory),
-    }
+    let checked = check_plan(alloc, board, plan);
+    judged(alloc, new, board, plan, checked)
 }
 
 /// Loads the handed plan, and says what it comes to.
