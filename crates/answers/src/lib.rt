@@ -15,4 +15,6 @@ pub use texts::report;
 pub use words::{Command, Listing, Migration, Simulation, read_words};
 
 #[cfg(test)]
+mod plan_tests;
+#[cfg(test)]
 mod tests;
