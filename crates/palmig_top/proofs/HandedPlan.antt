@@ -1,5 +1,5 @@
 -- What a plan that was read keeps, and that no refusal of its file is Done.
-use Rattle.std.proofs.Common.{ℕ, ◌≡◌, Bool, true, false, List, [], Option, Some, None, Result, Ok, Err, refl, sym, ap, ◌∙◌, subst}
+use Rattle.std.proofs.Common.{ℕ, ◌≡◌, Bool, true, false, not, List, [], Option, Some, None, Result, Ok, Err, refl, sym, ap, ◌∙◌, subst}
 use Rattle.mig_base.specs.declared.plans.Plan.{Plan}
 use Rattle.mig_base.specs.declared.plans.PlanError.{PlanError}
 use Rattle.mig_base.specs.declared.plans.PlanError.TheVariants.{NoEnd}

@@ -6,6 +6,7 @@ pub mod SavingLemmas
 pub mod HeldParts
 pub mod NewFilesHeld
 pub mod NewFilesMade
+pub mod Checked
 pub mod PlanSteps
 pub mod NotDone
 pub mod PlanBuilt

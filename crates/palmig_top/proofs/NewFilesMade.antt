@@ -1,5 +1,5 @@
 -- What is made for saving, step by step.
-use Rattle.std.proofs.Common.{ℕ, ◌≡◌, Bool, true, false, List, [], ◌∷◌, ◌++◌, map, length, Result, Ok, Err, MatchResult, refl, sym, ap, ◌∙◌, subst}
+use Rattle.std.proofs.Common.{ℕ, ◌≡◌, Bool, true, false, List, [], ◌∷◌, ◌++◌, map, length, Result, Ok, Err, MatchResult, refl, sym, ap, ◌∙◌, subst, append_assoc}
 use Rattle.std.specs.Prelude.{IfOk}
 use Rattle.std.specs.List.{AllByRecursion}
 use Rattle.mig_base.specs.declared.kinds.Kind.{Kind}
@@ -33,7 +33,9 @@ use Rattle.verdicts.specs.commands.Migrate.{saved_files, plan_files, built, new_
 use Rattle.palmig_top.specs.Steps.{Finds, IsEnd}
 use Rattle.palmig_top.specs.Reading.{IsReadBoard}
 use Rattle.palmig_top.specs.Preparing.{outcome_in}
-use Rattle.built_files.specs.BoardFiles.{IsWritableChip}
+use Rattle.built_files.specs.BoardFiles.{IsWritableChip, as_file, as_files}
+use Rattle.built_files.specs.declared.writing.FuseFile.{FuseFile}
+use Rattle.built_files.specs.declared.writing.NewFiles.{NewFiles}
 use Rattle.rebuilt_boards.proofs.BuiltWell.{built-well}
 use Rattle.palmig_top.proofs.HeldParts.{read-writable, taken-board}
 use Rattle.palmig_top.proofs.NewFilesHeld.{chip_file}
@@ -128,3 +130,17 @@ circuit-on board made net cells e f g = e ∙ ap (λ (n : Net). circuit_for n bo
 -- as many cells as chip lines, as they were lent
 pub many-on : (board : Joined) (net : Net) (cells : List ChipCells) → IsReadBoard board → net ≡ board.net → cells ≡ board.chips → length cells ≡ length net.chips
 many-on board net cells r f g = ap (λ (q : List ChipCells). length q) g ∙ read-as-many board r ∙ ap (λ (n : Net). length n.chips) (sym f)
+
+spread-named : (stem : List ℕ) (jeds : List FuseFile) (rest : List NewFile) → map (file_under stem) (map as_file jeds ++ rest) ≡ map (λ f. file_under stem (as_file f)) jeds ++ map (file_under stem) rest
+spread-named stem [] rest = refl
+spread-named stem (f ∷ fs) rest = ap (λ (q : List File). file_under stem (as_file f) ∷ q) (spread-named stem fs rest)
+
+-- the fuse files, the plan and the wiring by their names
+pub named-files : (stem : List ℕ) (files : NewFiles) (one two three : List File) (plan net : List ℕ) → one ≡ map (λ f. file_under stem (as_file f)) files.jeds.items →
+    two ≡ one ++ (plan, files.plan.items) ∷ [] → three ≡ two ++ (net, files.net.items) ∷ [] → plan ≡ plan_file stem → net ≡ net_file stem → three ≡ map (file_under stem) (as_files files)
+named-files stem files one two three plan net o t r p n =
+    r ∙ ap (λ (q : List File). q ++ (net, files.net.items) ∷ []) (t ∙ ap (λ (q : List File). q ++ (plan, files.plan.items) ∷ []) o)
+    ∙ append_assoc (map (λ f. file_under stem (as_file f)) files.jeds.items) ((plan, files.plan.items) ∷ []) ((net, files.net.items) ∷ [])
+    ∙ ap (λ (q : List ℕ). map (λ f. file_under stem (as_file f)) files.jeds.items ++ (q, files.plan.items) ∷ (net, files.net.items) ∷ []) p
+    ∙ ap (λ (q : List ℕ). map (λ f. file_under stem (as_file f)) files.jeds.items ++ (plan_file stem, files.plan.items) ∷ (q, files.net.items) ∷ []) n
+    ∙ sym (spread-named stem files.jeds.items _)

@@ -1,17 +1,10 @@
-ghost use Rattle.std.specs.Prelude.{◌≡◌, ◌++◌, ◌∷◌, [], ℕ, List, Option, Ok, true, IfOk, MatchResult, length, map};
-ghost use Rattle.std.specs.List.{AllByRecursion};
+ghost use Rattle.std.specs.Prelude.{◌≡◌, ℕ, List, Option, Ok, true, IfOk, MatchResult};
 ghost use Rattle.answers.specs.declared.words.Command.TheVariants as command;
-ghost use Rattle.mig_base.specs.WrittenBoard.{written_net, IsWritable};
-ghost use Rattle.mig_base.specs.WrittenPlan.{written_plan};
-ghost use Rattle.mig_base.specs.WrittenFuses.{written_fuses};
-ghost use Rattle.new_board.specs.Files.{chip_fuses, fuse_file, file_under};
-ghost use Rattle.verdicts.specs.HeldBoard.{net_file, plan_file};
 ghost use Rattle.verdicts.specs.commands.Migrate.{PreparesMigration, LoadsMigration, LoadsPlan, MigratesBy, migrated_or_later, migrated, is_taken_board};
 ghost use Rattle.verdicts.specs.Clauses.{Keeps};
 ghost use Rattle.palmig_top.specs.Steps.{Step, Finds, IsEnd};
 ghost use Rattle.palmig_top.specs.Reading.{IsReadBoard};
-ghost use Rattle.palmig_top.specs.Saving.{file_of};
-ghost use Rattle.palmig_top.specs.Preparing.{outcome_in, IsWritableChip};
+ghost use Rattle.palmig_top.specs.Preparing.{outcome_in};
 
 use crate::boards::read_board;
 use crate::commands::planned::by_plan;

@@ -1,4 +1,4 @@
-use Rattle.std.proofs.Common.{List, ◌≤◌, ◌∙◌, ap, sym, subst, map, length}
+use Rattle.std.proofs.Common.{List, ◌≤◌, ◌++◌, ◌∙◌, ap, sym, subst, map, length}
 use Rattle.mig_base.specs.declared.nets.Net.{Net}
 use Rattle.new_board.specs.NewFiles.{fitted, new_net}
 use Rattle.new_board.specs.OneForOne.{old_board, same_chips, one_for_one}
@@ -25,8 +25,8 @@ pub rebuild-requires-clause-circuit : goal.rebuild-requires-clause-circuit
 rebuild-requires-clause-circuit c = circuit-on c.args.board.now c.circuit.result.now c.net.result.now c.chips.result.now c.circuit.ensures.circuit c.net.ensures.net c.chips.ensures
 
 pub written_files-requires-clause-chips : goal.written_files-requires-clause-chips
-written_files-requires-clause-chips c = writable-chips c.args.board.now c.requires.read c.requires.taken c.in_ok-made.made.chips
-    (built-on (λ n q. map (fitted (old_board n q)) (same_chips n q)) c.net.ensures.net c.chips.ensures c.in_ok-made.ensures.chips)
+written_files-requires-clause-chips c = writable-chips c.args.board.now c.requires.read c.requires.taken c.items.result.now
+    (c.items.ensures ∙ built-on (λ n q. map (fitted (old_board n q)) (same_chips n q)) c.net.ensures.net c.chips.ensures c.in_ok-made.ensures.chips)
 
 pub written_files-requires-clause-wiring : goal.written_files-requires-clause-wiring
 written_files-requires-clause-wiring c = writable-wiring c.args.board.now c.requires.read c.requires.taken c.in_ok-made.made.net
@@ -35,7 +35,7 @@ written_files-requires-clause-wiring c = writable-wiring c.args.board.now c.requ
 pub returns : goal.returns
 returns c = ap (λ (q : List NewFile). done (map file_of q) c.in_ok-report.report.items) c.new.ensures
     ∙ outcome-made c.args.new.now c.args.board.now c.in_ok-made.made.chips c.in_ok-made.made.plan c.in_ok-made.made.net (as_files c.in_ok-files.files) (map file_of c.in_ok-saves.saves.items) c.in_ok-report.report.items
-    c.items-old_count.result.now c.items.result.now
+    c.items-old_count.result.now c.items-2.result.now
     (built-on (λ n q. map (fitted (old_board n q)) (same_chips n q)) c.net.ensures.net c.chips.ensures c.in_ok-made.ensures.chips)
     (built-on (λ n q. one_for_one n q) c.net.ensures.net c.chips.ensures c.in_ok-made.ensures.plan)
     (built-on (λ n q. new_net n (map (fitted (old_board n q)) (same_chips n q))) c.net.ensures.net c.chips.ensures c.in_ok-made.ensures.net)
@@ -43,4 +43,4 @@ returns c = ap (λ (q : List NewFile). done (map file_of q) c.in_ok-report.repor
     c.in_ok-saves.ensures
     c.in_ok-report.ensures
     (c.items-old_count.ensures ∙ ap (λ (n : Net). n.chips) c.net-2.ensures.net)
-    c.items.ensures
+    c.items-2.ensures
