@@ -8,9 +8,10 @@ few-words [] few = refl
 few-words (a ∷ []) few = refl
 few-words (a ∷ b ∷ more) few = absurd (let never : ⊥ = omega arith in never)
 
-pub many-words : (words : List (Bor (List ℕ))) → 4 ≤ length words → command_or_refusal (map (λ w. w.now) words) ≡ Err Usage
+pub many-words : (words : List (Bor (List ℕ))) → 5 ≤ length words → command_or_refusal (map (λ w. w.now) words) ≡ Err Usage
 many-words [] many = absurd (let never : ⊥ = omega arith in never)
 many-words (a ∷ []) many = absurd (let never : ⊥ = omega arith in never)
 many-words (a ∷ b ∷ []) many = absurd (let never : ⊥ = omega arith in never)
 many-words (a ∷ b ∷ c ∷ []) many = absurd (let never : ⊥ = omega arith in never)
-many-words (a ∷ b ∷ c ∷ d ∷ more) many = refl
+many-words (a ∷ b ∷ c ∷ d ∷ []) many = absurd (let never : ⊥ = omega arith in never)
+many-words (a ∷ b ∷ c ∷ d ∷ e ∷ more) many = refl

@@ -5,7 +5,7 @@ use Rattle.std.specs.List.{join_with_byte}
 use Rattle.std.specs.Fmt.{digits, padded_integral, format_spec, AppendsText, ◌++?◌}
 use Rattle.std.proofs.lemmas.Fmt.{hex_byte}
 use Rattle.mig_base.specs.WrittenBoard.{written_line}
-use Rattle.answers.specs.Reports.{Reason, reason_words}
+use Rattle.answers.specs.Reasons.{Reason, reason_words}
 use Rattle.mig_base.specs.WrittenFuses.{hex_digit, four_hex}
 
 -- a front, a file and a space, and then the words of a reason

@@ -8,7 +8,8 @@ use Rattle.mig_base.specs.Boards.{is_port}
 use Rattle.mig_base.specs.WrittenBoard.{written_line}
 use Rattle.std.specs.Fmt.{decimal}
 use Rattle.std.proofs.Common.{append_assoc}
-use Rattle.answers.specs.Reports.{node_text, ports_line, accepted_line}
+use Rattle.answers.specs.Reasons.{node_text}
+use Rattle.answers.specs.Reports.{ports_line, accepted_line}
 use Rattle.text_lines.proofs.PlainWords.{spaced}
 
 -- a space and the name of a port

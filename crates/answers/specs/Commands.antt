@@ -1,5 +1,5 @@
 -- The commands, and what the words of a call alone say.
-use Rattle.std.specs.Prelude.{ℕ, ◌≡◌, ◌&&◌, List, [], ◌∷◌, Option, Some, None, if◌then◌else◌, Result, Ok, Err, codes}
+use Rattle.std.specs.Prelude.{ℕ, Bool, true, false, ◌≡◌, ◌&&◌, List, [], ◌∷◌, Option, Some, None, if◌then◌else◌, Result, Ok, Err, codes}
 use Rattle.std.specs.Str.{bytes_eq}
 use Rattle.std.specs.Option.{option_map}
 use Rattle.mig_base.specs.declared.kinds.Kind.{Kind}
@@ -22,7 +22,11 @@ stem_of word = if is_stem word then Some word else None
 
 -- the words OLD NEW, which are stems
 abbrev pub migration_of : List ℕ → List ℕ → Option Migration
-migration_of old new = if is_stem old && is_stem new then Some (record { old = old; new = new }) else None
+migration_of old new = if is_stem old && is_stem new then Some (record { old = old; new = new; plan = None }) else None
+
+-- the words OLD NEW PLAN, which are stems
+abbrev pub planned_migration : List ℕ → List ℕ → List ℕ → Option Migration
+planned_migration old new plan = if is_stem old && is_stem new && is_stem plan then Some (record { old = old; new = new; plan = Some plan }) else None
 
 abbrev pub chip_listing : List ℕ → List ℕ → Kind → Option Listing
 chip_listing stem name kind = if is_stem stem && is_name name then Some (record { stem = stem; chip = Some name; kind = kind }) else None
@@ -52,17 +56,30 @@ command_by verb first second =
     else (if bytes_eq verb (codes "list") then option_map command.List (listing_of first (kind_named second))
     else (if bytes_eq verb (codes "sim") then option_map command.Sim (simulation_of first second) else None))
 
+-- migrate OLD NEW PLAN
+abbrev pub command_with : List ℕ → List ℕ → List ℕ → List ℕ → Option Command
+command_with verb first second third = if bytes_eq verb (codes "migrate") then option_map command.Migrate (planned_migration first second third) else None
+
 -- the words of a command; their number is exact
 abbrev pub command_of : List (List ℕ) → Option Command
 command_of [] = None
 command_of (verb ∷ []) = None
 command_of (verb ∷ board ∷ []) = command_on verb board
 command_of (verb ∷ first ∷ second ∷ []) = command_by verb first second
-command_of (verb ∷ first ∷ second ∷ more ∷ rest) = None
+command_of (verb ∷ first ∷ second ∷ third ∷ []) = command_with verb first second third
+command_of (verb ∷ first ∷ second ∷ third ∷ more ∷ rest) = None
 
--- a board is not migrated onto itself
+abbrev pub is_plan_stem : List ℕ → Option (List ℕ) → Bool
+is_plan_stem new None = false
+is_plan_stem new (Some plan) = bytes_eq plan new
+
+-- the new files would stand under the names of those that are read
+abbrev pub overwrites : Migration → Bool
+overwrites m = if bytes_eq m.old m.new then true else is_plan_stem m.new m.plan
+
+-- the new board stands under a stem of its own
 abbrev pub checked : Command → Result Command Exit
-checked (command.Migrate m) = if bytes_eq m.old m.new then Err (Refused Clash) else Ok (command.Migrate m)
+checked (command.Migrate m) = if overwrites m then Err (Refused Clash) else Ok (command.Migrate m)
 checked (command.List l) = Ok (command.List l)
 checked (command.Check board) = Ok (command.Check board)
 checked (command.Sim s) = Ok (command.Sim s)

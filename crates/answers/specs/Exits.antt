@@ -6,15 +6,18 @@ use Rattle.mig_base.specs.declared.nets.NetError.TheVariants as net_error
 use Rattle.mig_base.specs.declared.nets.BoardError.TheVariants as board_error
 use Rattle.mig_base.specs.declared.scripts.ScriptError.TheVariants as script_error
 use Rattle.mig_base.specs.declared.scripts.ScriptError.{ScriptError}
+use Rattle.mig_base.specs.declared.plans.PlanError.TheVariants as plan_error
 use Rattle.answers.specs.declared.exit.Exit.{Exit}
-use Rattle.answers.specs.declared.exit.Exit.TheVariants.{Done, Usage, Refused, Missing, ReadFault, SaveFault, OutFault, Memory}
+use Rattle.answers.specs.declared.exit.Exit.TheVariants.{Done, Usage, Refused, Breached, Missing, ReadFault, SaveFault, OutFault, Memory}
 use Rattle.answers.specs.declared.exit.Refusal.{Refusal}
-use Rattle.answers.specs.declared.exit.Refusal.TheVariants.{Clash, Later, TooLong, Jed, Chip, Net, Board, Script}
+use Rattle.answers.specs.declared.exit.Refusal.TheVariants.{Clash, Later, TooLong, Jed, Chip, Net, Board, Script, PlanText}
+use Rattle.answers.specs.BreachLines.{is_own_breach}
 
 abbrev pub status_of : Exit → ℕ
 status_of Done = 0
 status_of Usage = 3
 status_of (Refused r) = 4
+status_of (Breached x) = 5
 status_of (Missing f) = 6
 status_of (ReadFault f) = 7
 status_of (SaveFault f) = 8
@@ -31,6 +34,7 @@ IsOfFiles (Chip f e) = e ≢ chip_error.Memory
 IsOfFiles (Net f e) = e ≢ net_error.Memory
 IsOfFiles (Board f e) = e ≢ board_error.Memory
 IsOfFiles (Script f e) = e ≢ script_error.Memory
+IsOfFiles (PlanText f e) = e ≢ plan_error.Memory
 
 -- no want of memory is told as a refusal
 abbrev pub IsSound : Exit → Type 0
@@ -57,6 +61,7 @@ abbrev pub class_of : Exit → Class
 class_of Done = Judged
 class_of Usage = Worded
 class_of (Refused r) = class_of_refusal r
+class_of (Breached x) = Judged
 class_of (Missing f) = Missed f
 class_of (ReadFault f) = Unread f
 class_of (SaveFault f) = Unsaved f
@@ -76,4 +81,5 @@ is_own_refusal _ = true
 abbrev pub is_own : Exit → Bool
 is_own Done = false
 is_own (Refused r) = is_own_refusal r
+is_own (Breached x) = is_own_breach x
 is_own _ = true

@@ -1,7 +1,9 @@
 ghost use Rattle.std.specs.Prelude.{◌≡◌};
 ghost use Rattle.answers.specs.Exits.{status_of};
 
-use mig_base::{BoardError, ChipError, FileName, JedError, NetError, NoMemory, ScriptError};
+use mig_base::{
+    BoardError, Breach, ChipError, FileName, JedError, NetError, NoMemory, PlanError, ScriptError,
+};
 use std::alloc::{AllocError, AllocFailed};
 
 /// Why a command was refused. A file is named by its whole name.
@@ -23,6 +25,8 @@ pub enum Refusal {
     Board(FileName, BoardError),
     /// The file is no script text for its board.
     Script(FileName, ScriptError),
+    /// The file is no plan text.
+    PlanText(FileName, PlanError),
 }
 
 /// The answer of a command.
@@ -31,6 +35,8 @@ pub enum Exit {
     Done,
     Usage,
     Refused(Refusal),
+    /// The handed plan can't be built.
+    Breached(Breach),
     Missing(FileName),
     ReadFault(FileName),
     SaveFault(FileName),
@@ -76,6 +82,7 @@ pub fn status(e: &Exit) -> u8
         Exit::Done => 0,
         Exit::Usage => 3,
         Exit::Refused(_) => 4,
+        Exit::Breached(_) => 5,
         Exit::Missing(_) => 6,
         Exit::ReadFault(_) => 7,
         Exit::SaveFault(_) => 8,

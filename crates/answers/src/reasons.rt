@@ -1,8 +1,8 @@
 ghost use Rattle.std.specs.Prelude.{◌≡◌, ◌++◌, ◌∷◌, [], map, slice_index_or, OnOk, string_bytes, codes};
 ghost use Rattle.mig_base.specs.WrittenBoard.{written_line};
-ghost use Rattle.answers.specs.Reports.{reason_words, board_reason, script_reason, node_text, pin_text, name_of_net};
+ghost use Rattle.answers.specs.Reasons.{reason_words, board_reason, script_reason, plan_reason, node_text, pin_text, name_of_net};
 
-use mig_base::{BoardError, NetLine, Node, PinName, ScriptError};
+use mig_base::{BoardError, NetLine, Node, PinName, PlanError, ScriptError};
 use std::alloc::AllocError;
 
 /// The end of the line of a board that isn't accepted.
@@ -34,7 +34,7 @@ fn write_loop(text: &mut String, cycle: &[Node]) -> Result<(), AllocError>
 }
 
 /// The name of a node.
-fn write_node(text: &mut String, node: &Node) -> Result<(), AllocError>
+pub(crate) fn write_node(text: &mut String, node: &Node) -> Result<(), AllocError>
     ensures { OnOk result (string_bytes text.new ≡ string_bytes text.old ++ node_text node.now) }
 {
     match node {
@@ -50,7 +50,7 @@ fn write_node(text: &mut String, node: &Node) -> Result<(), AllocError>
 }
 
 /// The name of a pin.
-fn write_pin(text: &mut String, pin: &PinName) -> Result<(), AllocError>
+pub(crate) fn write_pin(text: &mut String, pin: &PinName) -> Result<(), AllocError>
     ensures { OnOk result (string_bytes text.new ≡ string_bytes text.old ++ pin_text pin.now) }
 {
     let name = pin.chip;
@@ -74,6 +74,20 @@ pub(crate) fn write_script_error(
         ScriptError::StepsOver { n } => writeln!(text, "StepsOver {n}"),
         ScriptError::NoEnd => text.push_str("NoEnd\n"),
         ScriptError::Memory => text.push_str("Memory\n"),
+    }
+}
+
+/// The end of the line of a refused plan text.
+pub(crate) fn write_plan_error(text: &mut String, error: PlanError) -> Result<(), AllocError>
+    ensures { OnOk result (string_bytes text.new ≡ string_bytes text.old ++ written_line (reason_words (plan_reason error))) }
+{
+    match error {
+        PlanError::Line { n } => writeln!(text, "Line {n}"),
+        PlanError::KindUnknown { n } => writeln!(text, "KindUnknown {n}"),
+        PlanError::ChipsOver { n } => writeln!(text, "ChipsOver {n}"),
+        PlanError::LinesOver { n } => writeln!(text, "LinesOver {n}"),
+        PlanError::NoEnd => text.push_str("NoEnd\n"),
+        PlanError::Memory => text.push_str("Memory\n"),
     }
 }
 

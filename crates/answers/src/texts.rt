@@ -1,9 +1,11 @@
 ghost use Rattle.std.specs.Prelude.{◌≡◌, ◌++◌, ◌∷◌, [], OnOk, IfOk, string_bytes};
 ghost use Rattle.mig_base.specs.WrittenBoard.{written_line};
 ghost use Rattle.mig_base.specs.WrittenFuses.{four_hex};
-ghost use Rattle.answers.specs.Reports.{answer_report, refusal_words, reason_words, jed_reason, chip_reason, net_reason};
+ghost use Rattle.answers.specs.Reasons.{reason_words, jed_reason, chip_reason, net_reason};
+ghost use Rattle.answers.specs.Reports.{answer_report, refusal_words};
 
-use crate::reasons::{write_board_error, write_script_error};
+use crate::breaches::write_breached;
+use crate::reasons::{write_board_error, write_plan_error, write_script_error};
 use crate::{Exit, Refusal};
 use mig_base::{ChipError, JedError, NetError, NetLine};
 use std::alloc::{AllocError, Global};
@@ -28,6 +30,7 @@ fn write_answer(text: &mut String, exit: &Exit, nets: &[NetLine]) -> Result<(), 
     match exit {
         Exit::Usage => text.push_str(USAGE),
         Exit::Refused(refusal) => write_refusal(text, refusal, nets),
+        Exit::Breached(breach) => write_breached(text, None, breach),
         Exit::Missing(file) => writeln!(text, "missing {}", file.text()),
         Exit::ReadFault(file) => writeln!(text, "readfault {}", file.text()),
         Exit::SaveFault(file) => writeln!(text, "savefault {}", file.text()),
@@ -62,6 +65,10 @@ fn write_refusal(text: &mut String, refusal: &Refusal, nets: &[NetLine]) -> Resu
         Refusal::Script(file, error) => {
             write!(text, "refused script {} ", file.text())?;
             write_script_error(text, *error, nets)
+        }
+        Refusal::PlanText(file, error) => {
+            write!(text, "refused plan {} ", file.text())?;
+            write_plan_error(text, *error)
         }
     }
 }

@@ -3,17 +3,18 @@ ghost use Rattle.std.specs.Option.{option_map};
 ghost use Rattle.mig_base.specs.DeviceTables.{kind_named};
 ghost use Rattle.mig_base.specs.FuseText.{cut_at};
 ghost use Rattle.answers.specs.declared.words.Command.TheVariants as command;
-ghost use Rattle.answers.specs.Commands.{IsCommandOf, IsSaid, IsOrUsage, checked_command, stem_of, migration_of, chip_listing, listing_at, listing_of, simulation_of, command_on, command_by};
+ghost use Rattle.answers.specs.Commands.{IsCommandOf, IsSaid, IsOrUsage, checked_command, checked, overwrites, stem_of, migration_of, planned_migration, chip_listing, listing_at, listing_of, simulation_of, command_on, command_by, command_with};
 
 use crate::{Exit, Refusal};
 use mig_base::{Kind, Name, NameError, Stem, kind_of};
 use std::alloc::Global;
 
-/// `migrate OLD NEW`.
+/// `migrate OLD NEW`, or `migrate OLD NEW PLAN`.
 #[derive(Drop)]
 pub struct Migration {
     pub old: Stem,
     pub new: Stem,
+    pub plan: Option<Stem>,
 }
 
 /// `list FILE KIND`: FILE is the stem, and a dot and the chip's name where there is one.
@@ -58,7 +59,25 @@ fn read_migration(alloc: Global, old: &str, new: &str) -> Result<Migration, Exit
 {
     let old = stem(alloc, old)?;
     let new = stem(alloc, new)?;
-    Ok(Migration { old, new })
+    Ok(Migration {
+        old,
+        new,
+        plan: None,
+    })
+}
+
+/// The stems of a migration by a handed plan.
+fn read_planned(alloc: Global, old: &str, new: &str, plan: &str) -> Result<Migration, Exit>
+    ensures { IsOrUsage (planned_migration old.now new.now plan.now) result }
+{
+    let old = stem(alloc, old)?;
+    let new = stem(alloc, new)?;
+    let plan = stem(alloc, plan)?;
+    Ok(Migration {
+        old,
+        new,
+        plan: Some(plan),
+    })
 }
 
 /// What stands before the first dot of a word, and behind it.
@@ -115,15 +134,43 @@ fn read_listing(alloc: Global, file: &str, kind: &str) -> Result<Listing, Exit>
     }
 }
 
+/// Whether the new files would stand under the names of those that are read.
+fn is_over(migration: &Migration) -> bool
+    ensures { result ≡ overwrites migration.now }
+{
+    if migration.old.text() == migration.new.text() {
+        return true;
+    }
+    match &migration.plan {
+        Some(plan) => plan.text() == migration.new.text(),
+        None => false,
+    }
+}
+
+/// A migration, refused where it would write over what it reads.
+fn unless_over(migration: Migration) -> Result<Command, Exit>
+    ensures { result ≡ checked (command.Migrate migration) }
+{
+    if is_over(&migration) {
+        return Err(Exit::Refused(Refusal::Clash));
+    }
+    Ok(Command::Migrate(migration))
+}
+
 /// `migrate OLD NEW`, refused where both are the same.
 fn migrate(alloc: Global, old: &str, new: &str) -> Result<Command, Exit>
     ensures { IsSaid (checked_command (option_map command.Migrate (migration_of old.now new.now))) result }
 {
     let migration = read_migration(alloc, old, new)?;
-    if migration.old.text() == migration.new.text() {
-        return Err(Exit::Refused(Refusal::Clash));
-    }
-    Ok(Command::Migrate(migration))
+    unless_over(migration)
+}
+
+/// `migrate OLD NEW PLAN`, refused where NEW is one of the others.
+fn migrate_by(alloc: Global, old: &str, new: &str, plan: &str) -> Result<Command, Exit>
+    ensures { IsSaid (checked_command (option_map command.Migrate (planned_migration old.now new.now plan.now))) result }
+{
+    let migration = read_planned(alloc, old, new, plan)?;
+    unless_over(migration)
 }
 
 /// `list FILE KIND`.
@@ -173,16 +220,33 @@ fn read_command(alloc: Global, verb: &str, first: &str, second: &str) -> Result<
     }
 }
 
+/// The command of a verb and three words, or what they alone refuse.
+fn read_long_command(
+    alloc: Global,
+    verb: &str,
+    first: &str,
+    second: &str,
+    third: &str,
+) -> Result<Command, Exit>
+    ensures { IsSaid (checked_command (command_with verb.now first.now second.now third.now)) result }
+{
+    match verb {
+        "migrate" => migrate_by(alloc, first, second, third),
+        _ => Err(Exit::Usage),
+    }
+}
+
 /// The command of these words, or what they alone refuse.
 ///
 /// # Errors
-/// `Usage` where the words are no command, `Clash` where a board would be migrated onto itself; `Memory`.
+/// `Usage` where the words are no command, `Clash` where the new files would stand under the names of those that are read; `Memory`.
 pub fn read_words(alloc: Global, words: &[&str]) -> Result<Command, Exit>
     ensures { IsCommandOf (map (λ w. w.now) words.now) result }
 {
     match words {
         [verb, board] => read_short_command(alloc, verb, board),
         [verb, first, second] => read_command(alloc, verb, first, second),
+        [verb, first, second, third] => read_long_command(alloc, verb, first, second, third),
         _ => Err(Exit::Usage),
     }
 }

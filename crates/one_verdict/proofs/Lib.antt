@@ -1,2 +1,3 @@
 pub mod OneRefusal
+pub mod OnePlan
 pub mod OneOutcome

@@ -19,12 +19,13 @@ use Rattle.shown_runs.specs.Sending.{inputs_of}
 use Rattle.verdicts.specs.HeldBoard.{sim_file}
 use Rattle.verdicts.specs.Outcomes.{Outcome, Ends, told}
 use Rattle.verdicts.specs.JudgedBoard.{JudgesBoard}
-use Rattle.verdicts.specs.commands.Migrate.{PreparesMigration, migrated_or_later}
+use Rattle.verdicts.specs.commands.Migrate.{PreparesMigration, MigratesBy}
 use Rattle.verdicts.specs.commands.List.{prepared_listing}
 use Rattle.verdicts.specs.commands.Check.{Checks, PreparesCheck, checked_outcome}
 use Rattle.verdicts.specs.commands.Sim.{Shows, JudgesScript, JudgesRun, script_held, shown_outcome}
 use Rattle.verdicts.specs.Verdict.{Judges, JudgesSaid}
 use Rattle.one_verdict.specs.OneVerdict.{VerdictIsOne}
+use Rattle.one_verdict.proofs.OnePlan.{migrated-once}
 use Rattle.one_verdict.proofs.OneRefusal.{then-once, board-once, board-accepted}
 use Rattle.level_laws.proofs.RanksExist.{accepted-runs-once}
 
@@ -67,7 +68,7 @@ run-once s held o p a c =
 command-once : (c : Command) (held : Held) (o p : Outcome) → Judges c held o → Judges c held p → o ≡ p
 command-once (command.Migrate m) held o p a c =
     ends-once [] (PreparesMigration m held) (λ x q. q ≡ x) o p
-    (λ r s u v. then-once (JudgesBoard m.old held) (λ b q. migrated_or_later m b ≡ q) r s (board-once m.old held) (λ b x y j e f. sym e ∙ f) u v) (λ x y z u v w. same-outcome x y z v w) a c
+    (λ r s u v. then-once (JudgesBoard m.old held) (MigratesBy m m.plan held) r s (board-once m.old held) (λ b x y j e f. migrated-once m m.plan held b x y e f) u v) (λ x y z u v w. same-outcome x y z v w) a c
 command-once (command.List l) held o p a c = ends-once [] (λ r. prepared_listing l held ≡ r) (λ x q. q ≡ x) o p (λ r s u v. sym u ∙ v) (λ x y z u v w. same-outcome x y z v w) a c
 command-once (command.Check stem) held o p a c =
     ends-once [] (PreparesCheck stem held) (λ x q. q ≡ x) o p

@@ -8,6 +8,7 @@ use Rattle.mig_base.specs.declared.nets.ChipLine.{ChipLine}
 use Rattle.mig_base.specs.Limits.{most_file_bytes}
 use Rattle.mig_base.specs.FuseText.{fuses_of_text}
 use Rattle.mig_base.specs.Cells.{cells_of}
+use Rattle.mig_base.specs.Accepted.{IsAccepted}
 use Rattle.mig_base.specs.WrittenBoard.{IsWritable}
 use Rattle.net_text.proofs.BoardGiven.{given-writable}
 use Rattle.mig_io.specs.Holding.{Held}
@@ -18,7 +19,7 @@ use Rattle.answers.specs.declared.exit.Exit.{Exit}
 use Rattle.answers.specs.declared.exit.Exit.TheVariants.{Refused}
 use Rattle.answers.specs.declared.exit.Refusal.{Refusal}
 use Rattle.answers.specs.declared.exit.Refusal.TheVariants.{TooLong, Jed, Chip}
-use Rattle.board.specs.Joined.{Joined}
+use Rattle.board.specs.Joined.{Joined, equations_of}
 use Rattle.verdicts.specs.HeldBoard.{HoldsFile, HoldsChip, HoldsChips, jed_file}
 use Rattle.verdicts.specs.Outcomes.{◌>>=◌, only_if, or_refused}
 use Rattle.verdicts.specs.JudgedBoard.{within_at, loaded, chip_of, chip_held, chips_held, parts_held, JudgesBoard}
@@ -91,6 +92,11 @@ chips-hold h stem (line ∷ lines) chips e =
 pub board-parts : (h : Held) (stem : List ℕ) (b : Joined) → JudgesBoard stem h (Ok b) → parts_held h stem ≡ Ok b
 board-parts h stem b (inl p) = p.1 ∙ ap (λ (q : Joined). Ok q) (sym p.2.0)
 board-parts h stem b (inr p) = absurd (let no : ⊥ = cc in no)
+
+-- a board that is judged is accepted
+pub board-accepted : (h : Held) (stem : List ℕ) (b : Joined) → JudgesBoard stem h (Ok b) → IsAccepted (equations_of b)
+board-accepted h stem b (inl p) = p.2.1
+board-accepted h stem b (inr p) = absurd (let no : ⊥ = cc in no)
 
 -- a board that was read, and is of the form that is taken
 pub read-writable : (net : Net) → IsReadWiring net → IsWritable net

@@ -6,7 +6,12 @@ pub mod SavingLemmas
 pub mod HeldParts
 pub mod NewFilesHeld
 pub mod NewFilesMade
+pub mod Checked
+pub mod PlanSteps
 pub mod NotDone
+pub mod PlanBuilt
+pub mod HandedPlan
+pub mod NewBoards
 pub mod Headline
 pub mod Sinks
 pub mod Promises

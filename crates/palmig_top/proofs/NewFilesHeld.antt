@@ -6,19 +6,11 @@ use Rattle.std.specs.Str.{bytes_eq}
 use Rattle.std.proofs.lemmas.List.{append_cancel_left, append_cancel_right}
 use Rattle.std.proofs.lemmas.Slice.Eq.{bytes_eq-Decides}
 use Rattle.std.proofs.lemmas.Bool.{and_parts, not-true}
-use Rattle.mig_base.specs.declared.kinds.Kind.{Kind}
-use Rattle.mig_base.specs.declared.kinds.Kind.TheVariants.{Gal16V8, Gal20V8}
 use Rattle.mig_base.specs.declared.cells.ChipCells.{ChipCells}
-use Rattle.mig_base.specs.declared.cells.ChipError.TheVariants.{Count}
-use Rattle.mig_base.specs.DeviceTables.{has_count, is_v8, is_22}
-use Rattle.mig_base.specs.Cells.{cells_of, cells_by_kind}
-use Rattle.mig_base.specs.WellFormed.{IsWellFormed}
-use Rattle.mig_base.specs.WrittenCells.{v8_fuses}
-use Rattle.mig_base.specs.Written22.{v22_fuses}
 use Rattle.mig_base.specs.WrittenFuses.{written_fuses}
 use Rattle.mig_base.specs.WrittenBoard.{are_distinct}
-use Rattle.v8.proofs.V8Laws.{v8-again}
-use Rattle.jed_write.proofs.WrittenKinds.{written-read, written-short}
+use Rattle.built_files.specs.BoardFiles.{IsWritableChip}
+use Rattle.built_files.proofs.GalFuses.{read-back}
 use Rattle.mig_io.specs.Holding.{Held, placed}
 use Rattle.new_board.specs.declared.types.FittedChip.{FittedChip}
 use Rattle.new_board.specs.Files.{chip_fuses, fuse_file, file_under}
@@ -95,36 +87,17 @@ jed-names stem a b other = other-name (jed_file stem a) (jed_file stem b) (λ e.
 abbrev pub chip_file : List ℕ → FittedChip → File
 chip_file stem f = file_under stem (fuse_file f)
 
--- no kind is both
-v8-not-22 : (k : Kind) → is_v8 k ≡ true → is_22 k ≡ false
-v8-not-22 Gal16V8 e = refl
-v8-not-22 Gal20V8 e = refl
-v8-not-22 k e = let no : ⊥ = cc in absurd no
-
--- the kinds whose fuses are written by the rules of the GAL16V8
-pub fuses-v8 : (c : ChipCells) → is_v8 c.kind ≡ true → chip_fuses c ≡ v8_fuses c
-fuses-v8 c v8 = ap (λ (b : Bool). cond b (v22_fuses c) (v8_fuses c)) (v8-not-22 c.kind v8)
-
--- the fuse count is right where fuses make cells
-pub right-count : (k : Kind) (bits : List Bool) (c : ChipCells) → cells_of k bits ≡ Ok c → has_count k (length bits) ≡ true
-right-count k bits c e = at (has_count k (length bits)) refl e
-  where
-    at : (b : Bool) → has_count k (length bits) ≡ b → cond b (cells_by_kind k bits) (Err (Count (length bits))) ≡ Ok c → has_count k (length bits) ≡ true
-    at true p e = p
-    at false p e = cc
-
 -- a chip whose fuse file is held
-pub built-chip : (k : Held) (stem : List ℕ) (f : FittedChip) → is_v8 f.cells.kind ≡ true → IsWellFormed f.cells →
-    k (jed_file stem f.name) ≡ Some (written_fuses f.cells.kind (chip_fuses f.cells)) → HoldsChip k stem (new_chip_line f) f.cells
-built-chip k stem f v8 well content =
-    let again : cells_of f.cells.kind (chip_fuses f.cells) ≡ Ok f.cells = ap (cells_of f.cells.kind) (fuses-v8 f.cells v8) ∙ v8-again f.cells v8 well in
-    let count : has_count f.cells.kind (length (chip_fuses f.cells)) ≡ true = right-count f.cells.kind (chip_fuses f.cells) f.cells again in
+pub built-chip : (k : Held) (stem : List ℕ) (f : FittedChip) → IsWritableChip f → k (jed_file stem f.name) ≡ Some (written_fuses f.cells.kind (chip_fuses f.cells)) →
+    HoldsChip k stem (new_chip_line f) f.cells
+built-chip k stem f w content =
+    let back = read-back f.cells w.kind w.cells in
     record {
       bytes = written_fuses f.cells.kind (chip_fuses f.cells);
       bits = chip_fuses f.cells;
-      file = record { content = content; short = written-short f.cells.kind (chip_fuses f.cells) count };
-      fuses = written-read f.cells.kind (chip_fuses f.cells) [] count tt;
-      made = again;
+      file = record { content = content; short = back.short };
+      fuses = back.fuses;
+      made = back.made;
     }
 
 lacks-one : (stem name : List ℕ) (f : FittedChip) (fs : List FittedChip) (rest : List File) (b : Bool) → bytes_eq name f.name ≡ b → (b || list_any (bytes_eq name) (map (λ g. g.name) fs)) ≡ false →
@@ -139,16 +112,16 @@ lacks-named stem name (f ∷ fs) e rest p = lacks-one stem name f fs rest (bytes
 
 -- the fuse files of all chips
 pub built-chips : (stem : List ℕ) (rest : List File) → ((name : List ℕ) → Lacks (jed_file stem name) rest) → (fs : List FittedChip) (h : Held) →
-    are_distinct bytes_eq (map (λ f. f.name) fs) ≡ true → AllByRecursion (λ f. is_v8 f.cells.kind ≡ true) fs → AllByRecursion (λ f. IsWellFormed f.cells) fs →
+    are_distinct bytes_eq (map (λ f. f.name) fs) ≡ true → AllByRecursion IsWritableChip fs →
     HoldsChips (placed_all (map (chip_file stem) fs ++ rest) h) stem (map new_chip_line fs) (map (λ f. f.cells) fs)
-built-chips stem rest apart [] h distinct v8 well = tt
-built-chips stem rest apart (f ∷ fs) h distinct v8 well =
+built-chips stem rest apart [] h distinct w = tt
+built-chips stem rest apart (f ∷ fs) h distinct w =
     let parts = and_parts (not (list_any (bytes_eq f.name) (map (λ g. g.name) fs))) (are_distinct bytes_eq (map (λ g. g.name) fs)) distinct in
     let content : placed_all (map (chip_file stem) (f ∷ fs) ++ rest) h (jed_file stem f.name) ≡ Some (written_fuses f.cells.kind (chip_fuses f.cells)) =
     kept (jed_file stem f.name) (map (chip_file stem) fs ++ rest) (placed (chip_file stem f).0 (Some (chip_file stem f).1) h) (lacks-named stem f.name fs (not-true _ parts.0) rest (apart f.name))
     ∙ ap (λ (b : Bool). cond b (Some (chip_file stem f).1) (h (jed_file stem f.name))) (same-name (jed_file stem f.name)) in (
-      built-chip (placed_all (map (chip_file stem) (f ∷ fs) ++ rest) h) stem f v8.0 well.0 content,
-      built-chips stem rest apart fs (placed (chip_file stem f).0 (Some (chip_file stem f).1) h) parts.1 v8.1 well.1,
+      built-chip (placed_all (map (chip_file stem) (f ∷ fs) ++ rest) h) stem f w.0 content,
+      built-chips stem rest apart fs (placed (chip_file stem f).0 (Some (chip_file stem f).1) h) parts.1 w.1,
     )
 
 -- the plan and the wiring stand behind them

@@ -13,10 +13,12 @@ use Rattle.mig_io.specs.Holding.{Held}
 use Rattle.answers.specs.declared.exit.Exit.{Exit}
 use Rattle.answers.specs.declared.exit.Exit.TheVariants.{Done, Refused, Missing}
 use Rattle.answers.specs.declared.exit.Refusal.{Refusal}
-use Rattle.answers.specs.declared.exit.Refusal.TheVariants.{TooLong, Jed, Chip}
+use Rattle.answers.specs.declared.exit.Refusal.TheVariants.{TooLong, Jed, Chip, PlanText}
 use Rattle.answers.specs.declared.exit.Refusal.TheVariants as refusal
+use Rattle.plan_text.specs.PlanText.{plan_of_text}
 use Rattle.board.specs.Joined.{Joined}
 use Rattle.verdicts.specs.HeldBoard.{net_file, jed_file}
+use Rattle.verdicts.specs.commands.Migrate.{plan_of, plan_held}
 use Rattle.verdicts.specs.Outcomes.{◌>>=◌, only_if, or_refused}
 use Rattle.verdicts.specs.JudgedBoard.{within_at, loaded, wiring_of, chip_of, wiring_held, chip_held, chips_held, parts_held, JudgesBoard}
 
@@ -72,6 +74,10 @@ plain-chips h stem (line ∷ lines) =
 plain-parts : (h : Held) (stem : List ℕ) → AreErrorsPlain (parts_held h stem)
 plain-parts h stem = plain-then (wiring_held h stem) (λ net. chips_held h stem net.chips >>= λ chips. Ok (record { net = net; chips = chips })) (plain-wiring h stem)
     (λ net. plain-then (chips_held h stem net.chips) (λ chips. Ok (record { net = net; chips = chips })) (plain-chips h stem net.chips) (λ chips. plain-ok (let b : Joined = record { net = net; chips = chips } in b)))
+
+pub plain-plan : (h : Held) (name : List ℕ) → AreErrorsPlain (plan_held h name)
+plain-plan h name = plain-then (loaded h most_file_bytes name) (λ bytes. plan_of name bytes) (plain-within most_file_bytes name (h name))
+    (λ bytes. plain-refused (PlanText name) (plan_of_text bytes) (λ x. refl))
 
 -- nor is the refusal of a board
 pub board-plain : (h : Held) (stem : List ℕ) (e : Exit) → JudgesBoard stem h (Err e) → is_done e ≡ false

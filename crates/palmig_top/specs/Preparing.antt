@@ -1,8 +1,5 @@
 -- What is prepared for saving.
-use Rattle.std.specs.Prelude.{◌≡◌, map, length, IsTrue}
-use Rattle.mig_base.specs.DeviceTables.{is_v8}
-use Rattle.mig_base.specs.WellFormed.{IsWellFormed}
-use Rattle.new_board.specs.declared.types.FittedChip.{FittedChip}
+use Rattle.std.specs.Prelude.{◌≡◌, map, length}
 use Rattle.answers.specs.declared.shows.Counted.{Counted}
 use Rattle.board.specs.Joined.{Joined, equations_of, HasRank}
 use Rattle.palmig_top.specs.declared.prepared.Prepared.{Prepared}
@@ -20,8 +17,3 @@ pub record IsCounted (b : Joined) (counted : Counted) : Type 0 where
   pub units : counted.units ≡ length (equations_of b).units
   pub registers : counted.registers ≡ length (equations_of b).registers
   pub rank : HasRank (equations_of b) counted.rank
-
--- a new chip whose fuses can be written
-pub record IsWritableChip (f : FittedChip) : Type 0 where
-  pub kind : IsTrue (is_v8 f.cells.kind)
-  pub cells : IsWellFormed f.cells

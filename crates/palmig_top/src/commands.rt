@@ -3,4 +3,5 @@
 pub mod check;
 pub mod list;
 pub mod migrate;
+pub mod planned;
 pub mod sim;

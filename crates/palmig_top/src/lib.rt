@@ -4,7 +4,9 @@
 mod boards;
 mod commands;
 mod concluding;
+mod handed;
 mod loads;
+mod new_files;
 mod prepared;
 mod saves;
 mod telling;

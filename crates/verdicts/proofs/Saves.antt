@@ -1,6 +1,8 @@
 -- What has no saves.
-use Rattle.std.proofs.Common.{ℕ, ◌≡◌, ◌≢◌, true, false, Bool, List, [], Result, Ok, Err, sym, ap, ◌∙◌, inl, inr}
+use Rattle.std.proofs.Common.{ℕ, ◌≡◌, ◌≢◌, ◌⊎◌, true, false, Bool, List, [], Option, Some, None, Result, Ok, Err, sym, ap, subst, ◌∙◌, inl, inr}
 use Rattle.mig_base.specs.declared.cells.ChipCells.{ChipCells}
+use Rattle.mig_base.specs.declared.plans.Plan.{Plan}
+use Rattle.board.specs.Joined.{Joined}
 use Rattle.mig_io.specs.Holding.{Held}
 use Rattle.answers.specs.declared.exit.Exit.{Exit}
 use Rattle.answers.specs.declared.exit.Exit.TheVariants.{Done}
@@ -12,7 +14,7 @@ use Rattle.answers.specs.declared.words.Simulation.{Simulation}
 use Rattle.answers.specs.Commands.{command_or_refusal}
 use Rattle.verdicts.specs.Outcomes.{◌>>=◌, Outcome, only_if}
 use Rattle.verdicts.specs.JudgedBoard.{chip_held}
-use Rattle.verdicts.specs.commands.Migrate.{JudgesMigration, PreparesMigration}
+use Rattle.verdicts.specs.commands.Migrate.{JudgesMigration, PreparesMigration, MigratesBy, PlansTo, IsBroken, IsBuilt}
 use Rattle.verdicts.specs.commands.Check.{JudgesCheck, PreparesCheck}
 use Rattle.verdicts.specs.commands.List.{JudgesListing, listed_file, listed_outcome}
 use Rattle.verdicts.specs.commands.Sim.{JudgesRun}
@@ -27,12 +29,32 @@ tested : (t : Bool) (x y : Outcome) (e : Exit) → only_if t x e ≡ Ok y → x 
 tested true x y e p = ok-same x y p
 tested false x y e p = cc
 
-migration-prepared : (m : Migration) (held : Held) (x : Outcome) → PreparesMigration m held (Ok x) → x.answer ≡ Done
-migration-prepared m held x (inl p) = ap (λ (o : Outcome). o.answer) (sym (tested _ _ x _ p.2))
+-- what is done, or saves nothing
+abbrev IsDoneOrBare : Outcome → Type 0
+IsDoneOrBare x = (x.answer ≡ Done) ⊎ (x.saves ≡ [])
+
+made-bare : (new : List ℕ) (b : Joined) (p : Plan) (o : Outcome) → IsBroken b p o ⊎ IsBuilt new b p o → IsDoneOrBare o
+made-bare new b p o (inl broken) = inr (ap (λ (q : Outcome). q.saves) broken.comes)
+made-bare new b p o (inr built) = inl (ap (λ (q : Outcome). q.answer) built.comes)
+
+planned-bare : (new : List ℕ) (b : Joined) (p : Plan) (x : Outcome) → PlansTo new b p (Ok x) → IsDoneOrBare x
+planned-bare new b p x (o, same, made) = subst IsDoneOrBare (sym (ok-same x o same)) (made-bare new b p o made)
+
+by-plan : (m : Migration) (handed : Option (List ℕ)) (held : Held) (b : Joined) (x : Outcome) → MigratesBy m handed held b (Ok x) → IsDoneOrBare x
+by-plan m None held b x p = inl (ap (λ (o : Outcome). o.answer) (sym (tested _ _ x _ p)))
+by-plan m (Some plan) held b x (inl p) = planned-bare m.new b p.0 x p.2
+by-plan m (Some plan) held b x (inr p) = absurd (let no : ⊥ = cc in no)
+
+migration-prepared : (m : Migration) (held : Held) (x : Outcome) → PreparesMigration m held (Ok x) → IsDoneOrBare x
+migration-prepared m held x (inl p) = by-plan m m.plan held p.0 x p.2
 migration-prepared m held x (inr p) = absurd (let no : ⊥ = cc in no)
 
+bare-saves : (x : Outcome) → IsDoneOrBare x → x.answer ≢ Done → x.saves ≡ []
+bare-saves x (inl p) other = absurd (other p)
+bare-saves x (inr p) other = p
+
 migration-saves : (m : Migration) (held : Held) (o : Outcome) → JudgesMigration m held o → o.answer ≢ Done → o.saves ≡ []
-migration-saves m held o (inl p) other = absurd (other (ap (λ (q : Outcome). q.answer) p.2 ∙ migration-prepared m held p.0 p.1))
+migration-saves m held o (inl p) other = bare-saves o (subst IsDoneOrBare (sym p.2) (migration-prepared m held p.0 p.1)) other
 migration-saves m held o (inr p) other = ap (λ (q : Outcome). q.saves) p.2
 
 listed-saves : (r : Result ChipCells Exit) (x : Outcome) → (r >>= λ cells. Ok (listed_outcome cells)) ≡ Ok x → x.saves ≡ []

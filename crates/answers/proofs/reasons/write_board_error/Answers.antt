@@ -2,7 +2,7 @@ use Rattle.std.proofs.Common.{◌≡◌, ◌++◌, sym, subst, codes, string_byt
 use Rattle.std.specs.Prelude.{OnOk}
 use Rattle.mig_base.specs.declared.nets.BoardError.{BoardError}
 use Rattle.mig_base.specs.WrittenBoard.{written_line}
-use Rattle.answers.specs.Reports.{reason_words, board_reason}
+use Rattle.answers.specs.Reasons.{reason_words, board_reason}
 use Rattle.answers.proofs.Lines.{file-line}
 use Rattle.answers.proofs.reasons.write_board_error.Goals as goal
 

@@ -2,7 +2,7 @@ use Rattle.std.proofs.Common.{◌≡◌, ◌++◌, sym, subst, string_bytes}
 use Rattle.std.specs.Prelude.{OnOk}
 use Rattle.mig_base.specs.declared.scripts.ScriptError.{ScriptError}
 use Rattle.mig_base.specs.WrittenBoard.{written_line}
-use Rattle.answers.specs.Reports.{reason_words, script_reason}
+use Rattle.answers.specs.Reasons.{reason_words, script_reason}
 use Rattle.answers.proofs.reasons.write_script_error.Goals as goal
 
 pub returns-in-PortUnknown : goal.returns-in-PortUnknown

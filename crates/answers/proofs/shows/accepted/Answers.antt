@@ -1,5 +1,4 @@
-use Rattle.std.proofs.Common.{◌≡◌, ap, ◌∙◌, arith, string_bytes}
-use Rattle.std.proofs.lemmas.Grind.{common_steps}
+use Rattle.std.proofs.Common.{◌≡◌, ap, ◌∙◌, string_bytes}
 use Rattle.answers.specs.Reports.{accepted_line}
 use Rattle.answers.proofs.Spaced.{accepted-text}
 use Rattle.answers.proofs.shows.accepted.Goals as goal

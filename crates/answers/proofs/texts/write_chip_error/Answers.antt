@@ -2,7 +2,7 @@ use Rattle.std.proofs.Common.{◌≡◌, ◌++◌, sym, subst, string_bytes}
 use Rattle.std.specs.Prelude.{OnOk}
 use Rattle.mig_base.specs.declared.cells.ChipError.{ChipError}
 use Rattle.mig_base.specs.WrittenBoard.{written_line}
-use Rattle.answers.specs.Reports.{reason_words, chip_reason}
+use Rattle.answers.specs.Reasons.{reason_words, chip_reason}
 use Rattle.answers.proofs.texts.write_chip_error.Goals as goal
 
 pub returns-in-Ac1InComplex : goal.returns-in-Ac1InComplex

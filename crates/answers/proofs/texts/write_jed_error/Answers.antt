@@ -2,7 +2,7 @@ use Rattle.std.proofs.Common.{◌≡◌, ◌++◌, sym, subst, string_bytes}
 use Rattle.std.specs.Prelude.{OnOk}
 use Rattle.mig_base.specs.declared.jedec.JedError.{JedError}
 use Rattle.mig_base.specs.WrittenBoard.{written_line}
-use Rattle.answers.specs.Reports.{reason_words, jed_reason}
+use Rattle.answers.specs.Reasons.{reason_words, jed_reason}
 use Rattle.answers.proofs.texts.write_jed_error.Goals as goal
 
 pub returns-in-CountTwice : goal.returns-in-CountTwice

@@ -2,7 +2,8 @@ use Rattle.std.proofs.Common.{ℕ, List, [], ◌∷◌, ◌≡◌, ◌++◌, ◌
 use Rattle.std.specs.Prelude.{OnOk}
 use Rattle.mig_base.specs.WrittenBoard.{written_line}
 use Rattle.answers.specs.declared.exit.Refusal.{Refusal}
-use Rattle.answers.specs.Reports.{refusal_words, jed_reason, net_reason}
+use Rattle.answers.specs.Reasons.{jed_reason, net_reason}
+use Rattle.answers.specs.Reports.{refusal_words}
 use Rattle.answers.proofs.Lines.{refused-line}
 use Rattle.answers.proofs.texts.write_refusal.Goals as goal
 
