@@ -9,7 +9,7 @@ use Rattle.new_board.specs.NewFiles.{new_net}
 use Rattle.new_board.specs.OneForOne.{one_for_one}
 use Rattle.plans.specs.Breaches.{HasNoBreach}
 use Rattle.plans.specs.Fitting.{AreFitted}
-use Rattle.palmig_top.proofs.PlanBuilt.{plan-built}
+use Rattle.plan_build.proofs.PlanBuilt.{plan-built}
 use Rattle.plan_build.proofs.BuiltTexts.{writable-chips}
 use Rattle.taken_boards.specs.TakenBoards.{TakenBoard}
 use Rattle.mig_base.specs.Given.{IsGiven}

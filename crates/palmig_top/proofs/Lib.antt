@@ -9,7 +9,6 @@ pub mod NewFilesMade
 pub mod Checked
 pub mod PlanSteps
 pub mod NotDone
-pub mod PlanBuilt
 pub mod HandedPlan
 pub mod NewBoards
 pub mod Headline

@@ -1,5 +1,5 @@
 -- What the texts of a plan's board are written from.
-use Rattle.std.proofs.Common.{ℕ, ◌≡◌, ◌≤◌, true, List, [], ◌∷◌, length, map, sym, ap, ◌∙◌, subst}
+use Rattle.std.proofs.Common.{ℕ, ◌≡◌, ◌≤◌, true, Result, Ok, Err, IfOk, List, [], ◌∷◌, length, map, sym, ap, ◌∙◌, subst}
 use Rattle.std.specs.Prelude.{IsTrue}
 use Rattle.std.specs.List.{AllByRecursion, list_all}
 use Rattle.std.proofs.lemmas.Bool.{and_parts}
@@ -32,3 +32,7 @@ well b p built given plan free fitted = plans-built b p built given given.wiring
 -- so their texts can be written
 pub writable-built : (b : Joined) (p : Plan) (built : List FittedChip) → IsBuiltWell b p built → AllByRecursion IsWritableChip built
 writable-built b p built w = writable-chips built w.cells w.gals
+
+pub if-ok : {T E A : Type 0} (r : Result T E) → A → IfOk r (λ x. A)
+if-ok (Ok x) a = a
+if-ok (Err e) a = tt

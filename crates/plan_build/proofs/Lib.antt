@@ -1,1 +1,2 @@
 pub mod BuiltTexts
+pub mod PlanBuilt

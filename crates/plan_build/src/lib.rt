@@ -1,6 +1,8 @@
-//! What a plan without breach builds: the texts of its files, and the definition of what its board keeps.
+//! What a plan without breach builds: the texts of its files, and what its board keeps.
 #![tactic(auto)]
 
+mod laws;
 mod texts;
 
+pub use laws::plans_are_built;
 pub use texts::build;

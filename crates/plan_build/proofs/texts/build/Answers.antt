@@ -5,7 +5,8 @@ use Rattle.mig_base.specs.WrittenBoard.{IsWritable}
 use Rattle.new_board.specs.declared.types.FittedChip.{FittedChip}
 use Rattle.new_board.specs.NewFiles.{new_net}
 use Rattle.built_files.specs.BoardFiles.{IsWritableChip}
-use Rattle.plan_build.proofs.BuiltTexts.{well, writable-built}
+use Rattle.plan_build.proofs.BuiltTexts.{if-ok, well, writable-built}
+use Rattle.plan_build.proofs.PlanBuilt.{plan-built}
 use Rattle.plan_build.proofs.texts.build.Goals as goal
 
 pub new_net-requires-clause-nets : goal.new_net-requires-clause-nets
@@ -26,3 +27,8 @@ pub written_files-requires-clause-wiring : goal.written_files-requires-clause-wi
 written_files-requires-clause-wiring c =
     subst IsWritable (sym (c.in_ok-net.ensures ∙ ap (λ (n : Net). new_net n c.items-chips.result.now) c.net.ensures.net ∙ ap (new_net c.args.board.now.net) c.items-chips.ensures))
     (well c.args.board.now c.args.fitted.now.plan c.args.fitted.now.chips c.net.ensures.given c.requires.plan c.requires.free c.requires.chips).wiring
+
+pub returns-clause-built : goal.returns-clause-built
+returns-clause-built c =
+    if-ok c.written_files.result
+    (plan-built c.args.board.now c.args.fitted.now.plan c.args.fitted.now.chips c.net.ensures.given c.circuit.ensures.accepted c.requires.plan c.requires.free c.requires.chips)
