@@ -36,6 +36,11 @@ expect expected/migrate.txt 0 migrate counter new
 # the new board shows the same
 expect expected/sim.txt 0 sim new count
 
+# and so does that of a plan by hand, on one chip
+expect expected/planned.txt 0 migrate counter one_chip one
+cmp one_chip.net expected/planned.net || failed=1
+expect expected/sim.txt 0 sim one_chip count
+
 # as many steps as a script may have
 { printf 'script 1\nports CLK RST\n'; seq 100000 | sed 's/.*/step 00/'; echo end; } > most.sim
 { head -n 1 expected/sim.txt; seq 100000 | sed 's/.*/show 001110/'; } > most.txt
