@@ -1,5 +1,5 @@
 -- A command comes to one outcome.
-use Rattle.std.proofs.Common.{ℕ, ◌≡◌, ◌+◌, List, [], Result, Ok, Err, sym, ap, ◌∙◌, subst, inl, inr}
+use Rattle.std.proofs.Common.{ℕ, ◌≡◌, List, [], Result, Ok, Err, sym, ap, ◌∙◌, subst, inl, inr}
 use Rattle.mig_base.specs.Accepted.{IsAccepted}
 use Rattle.mig_base.specs.declared.circuit.Circuit.{Circuit}
 use Rattle.mig_base.specs.declared.nets.NetLine.{NetLine}
@@ -12,8 +12,6 @@ use Rattle.answers.specs.declared.words.Simulation.{Simulation}
 use Rattle.answers.specs.Commands.{command_or_refusal}
 use Rattle.ranks.specs.declared.Ranks.{Ranks}
 use Rattle.ranks.proofs.OneRanks.{ranks-unique}
-use Rattle.level_laws.specs.Runs.{power_up}
-use Rattle.std.proofs.Common.{None}
 use Rattle.board.specs.Joined.{Joined, equations_of, HasRank}
 use Rattle.shown_runs.specs.Sending.{inputs_of}
 use Rattle.verdicts.specs.HeldBoard.{sim_file}

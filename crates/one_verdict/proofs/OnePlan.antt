@@ -1,14 +1,9 @@
 -- A handed plan comes to one thing.
-use Rattle.std.proofs.Common.{ℕ, ◌≡◌, ◌⊎◌, List, [], ◌∷◌, Option, Some, None, Result, Ok, Err, refl, sym, ap, ◌∙◌, subst, inl, inr, map}
+use Rattle.std.proofs.Common.{ℕ, ◌≡◌, ◌⊎◌, List, Option, Some, None, Result, Ok, sym, ap, ◌∙◌, inl, inr}
 use Rattle.mig_base.specs.declared.plans.Plan.{Plan}
-use Rattle.mig_base.specs.declared.plans.PlanChip.{PlanChip}
-use Rattle.mig_base.specs.declared.plans.Breach.{Breach}
 use Rattle.new_board.specs.declared.types.FittedChip.{FittedChip}
-use Rattle.new_board.specs.NewChip.{NewChip}
-use Rattle.plans.specs.FirstOf.{AreEach}
-use Rattle.plans.specs.Breaches.{IsBreach, HasNoBreach}
 use Rattle.plans.specs.Forms.{IsNewChip}
-use Rattle.plans.specs.Fitting.{AreNewChips, AreFitted, fitted_chips}
+use Rattle.plans.specs.Fitting.{AreFitted, fitted_chips}
 use Rattle.plans.proofs.Firsts.{each-one}
 use Rattle.plans.proofs.FormLaws.{chip-one}
 use Rattle.plans.proofs.BreachLaws.{breach-one}

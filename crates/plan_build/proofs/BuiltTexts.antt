@@ -1,17 +1,14 @@
 -- What the texts of a plan's board are written from.
-use Rattle.std.proofs.Common.{ℕ, ◌≡◌, ◌≤◌, true, List, [], ◌∷◌, length, map, sym, ap, ◌∙◌, subst}
+use Rattle.std.proofs.Common.{List, [], ◌∷◌}
 use Rattle.std.specs.Prelude.{IsTrue}
 use Rattle.std.specs.List.{AllByRecursion, list_all}
 use Rattle.std.proofs.lemmas.Bool.{and_parts}
-use Rattle.mig_base.specs.declared.nets.Net.{Net}
 use Rattle.mig_base.specs.declared.plans.Plan.{Plan}
 use Rattle.mig_base.specs.DeviceTables.{is_gal}
 use Rattle.mig_base.specs.Given.{IsGiven}
 use Rattle.mig_base.specs.WellFormed.{IsWellFormed}
-use Rattle.mig_base.specs.WrittenBoard.{IsWritable}
 use Rattle.board.specs.Joined.{Joined}
 use Rattle.new_board.specs.declared.types.FittedChip.{FittedChip}
-use Rattle.new_board.specs.NewFiles.{new_net}
 use Rattle.built_files.specs.BoardFiles.{IsWritableChip}
 use Rattle.plan_text.specs.PlanText.{IsPlan}
 use Rattle.plans.specs.Breaches.{HasNoBreach}

@@ -1,4 +1,4 @@
-use Rattle.std.proofs.Common.{◌≡◌, List, sym, subst, Ok, Err}
+use Rattle.std.proofs.Common.{◌≡◌, List, subst, Ok, Err}
 use Rattle.std.proofs.lemmas.Result.{err_from_is_err_and}
 use Rattle.mig_base.specs.declared.nets.ChipLine.{ChipLine}
 use Rattle.verdicts.specs.JudgedBoard.{chips_held, LoadsChips}

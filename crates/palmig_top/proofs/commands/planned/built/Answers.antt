@@ -1,4 +1,4 @@
-use Rattle.std.proofs.Common.{◌≡◌, ◌∙◌, List, ap, map}
+use Rattle.std.proofs.Common.{◌∙◌, List, ap, map}
 use Rattle.mig_base.specs.declared.nets.Net.{Net}
 use Rattle.built_files.specs.BoardFiles.{as_files}
 use Rattle.verdicts.specs.Outcomes.{done}

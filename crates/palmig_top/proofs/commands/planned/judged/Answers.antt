@@ -5,7 +5,7 @@ use Rattle.fit.specs.declared.Fitted.{Fitted}
 use Rattle.fit.specs.declared.FitError.TheVariants as error
 use Rattle.fit.specs.Answers.{RefusesPlan}
 use Rattle.plan_text.specs.PlanText.{IsPlan}
-use Rattle.plans.specs.Breaches.{HasNoBreach, IsBreach}
+use Rattle.plans.specs.Breaches.{HasNoBreach}
 use Rattle.plans.specs.Fitting.{AreFitted}
 use Rattle.palmig_top.proofs.Checked.{if-ok, if-err}
 use Rattle.palmig_top.proofs.PlanSteps.{plan-built, plan-broken}

@@ -3,7 +3,7 @@ use Rattle.verdicts.specs.HeldBoard.{sim_file}
 use Rattle.verdicts.specs.Outcomes.{◌>>=◌}
 use Rattle.verdicts.specs.JudgedBoard.{loaded}
 use Rattle.verdicts.specs.commands.Sim.{script_of, most_script_bytes}
-use Rattle.palmig_top.specs.Steps.{Step, Finds}
+use Rattle.palmig_top.specs.Steps.{Step}
 use Rattle.palmig_top.proofs.Chains.{then-found, bound}
 use Rattle.palmig_top.proofs.commands.sim.read_script_for.Goals as goal
 
